@@ -1,0 +1,76 @@
+-- What the answer of a write says of the run of its queue, and what becomes of the queue: it is run whole, or nothing is run.
+-- Assumes nothing.
+use Prim.Native.Nat.{ℕ}
+use mathlib.Core.Path.{_≡_, refl, ap₂}
+use mathlib.Core.Bool.{Bool, true, false}
+use mathlib.Core.Option.{Option, none, some}
+use lib.Dec.{leb}
+use Rattle.model.specs.declared.ItsState.{ItsState}
+use Rattle.model.specs.declared.Refusal.{Refusal}
+use Rattle.model.specs.declared.Refusal.the-variants.{Unsound, BudgetExceeded}
+use Rattle.model.specs.declared.Verdict.the-variants.{Refused}
+use Rattle.model.specs.declared.WriteAnswer.{WriteAnswer}
+use Rattle.model.specs.declared.WriteAnswer.the-variants.{Taken, NotTaken}
+use Rattle.model.specs.Choose.{if_then_else_, _or_then_}
+use Rattle.model.specs.Refusal.{writeNumbers}
+use Rattle.model.specs.Queue.{Window, waiting, Stop, Ran, ended, run, runQueue}
+use Rattle.model.specs.Entry.{answerOf}
+use Rattle.model.proofs.Cases.{never}
+use Rattle.model.proofs.Stays.{apart}
+
+-- What an answer says of its run.
+
+-- the answer to the run q, had it stopped so
+abbrev pub answerFor : Ran → Option Stop → WriteAnswer
+answerFor q o = answerOf (record { unit = q .unit; done = q .done; actions = q .actions; stopped = o })
+
+pub done-of : (q : Ran) (o : Option Stop) → writeNumbers (answerFor q o) .done ≡ q .done
+done-of q none = refl
+done-of q (some s) = refl
+
+pub stop-of : (q : Ran) (o : Option Stop) (r : Refusal) (opcode offset done : ℕ) → answerFor q o ≡ NotTaken r opcode offset done →
+    (o ≡ some (record { refusal = r; opcode = opcode })) × (offset ≡ q .unit .registers .creadr)
+stop-of q none r opcode offset done h = never true refl (cc)
+stop-of q (some s) r opcode offset done h =
+    let why : s .refusal ≡ r = cc in
+    let which : s .opcode ≡ opcode = cc in
+    (ap₂ (λ x y. some (record { refusal = x; opcode = y })) why which, (cc))
+
+pub taken-of : (q : Ran) (o : Option Stop) (done actions : ℕ) → answerFor q o ≡ Taken done actions → o ≡ none
+taken-of q none done actions h = refl
+taken-of q (some s) done actions h = never true refl (cc)
+
+-- What becomes of the queue: it runs whole, or nothing runs.
+
+module _ {A : Type 0} (a b : Bool) (x y z : A) where
+  both-hold : a ≡ true → b ≡ true → (if a then (b or x then y) else z) ≡ y
+  both-hold h k = rw (h, k)
+
+  second-fails : a ≡ true → b ≡ false → (if a then (b or x then y) else z) ≡ x
+  second-fails h k = rw (h, k)
+
+  first-fails : a ≡ false → (if a then (b or x then y) else z) ≡ z
+  first-fails h = rw h
+
+module _ (w : Window) (v : ItsState) where
+  abbrev pub fits : Bool
+  fits = leb (waiting (v .registers)) (v .config .«command_budget»)
+
+  pub queue-runs : v .registers .enabled ≡ true → fits ≡ true → runQueue w v ≡ run w (waiting (v .registers)) v
+  unfolding runQueue
+  queue-runs = both-hold (v .registers .enabled) fits _ _ _
+
+  pub queue-over : v .registers .enabled ≡ true → fits ≡ false → runQueue w v ≡ ended v (some (record { refusal = BudgetExceeded; opcode = 0 }))
+  unfolding runQueue
+  queue-over = second-fails (v .registers .enabled) fits _ _ _
+
+  pub queue-off : v .registers .enabled ≡ false → runQueue w v ≡ ended v none
+  unfolding runQueue
+  queue-off = first-fails (v .registers .enabled) fits _ _ _
+
+-- a refusal that is neither 1 nor 5
+pub not-unsound : (r : Refusal) → apart (Refused r) ≡ true → r ≡ Unsound → ⊥
+not-unsound r a h = never (apart (Refused r)) a (rw h)
+
+pub not-budget : (r : Refusal) → apart (Refused r) ≡ true → r ≡ BudgetExceeded → ⊥
+not-budget r a h = never (apart (Refused r)) a (rw h)

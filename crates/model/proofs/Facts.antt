@@ -1,0 +1,66 @@
+-- Facts that 01 states or warns of, computed from the definitions on its example: device 5, event 9, LPI 8200, collection 2, processor 1.
+-- Assumes nothing.
+use mathlib.Core.Path.{_≡_, refl}
+use mathlib.Core.Bool.{true, false}
+use mathlib.Core.List.{List, [], _∷_}
+use mathlib.Core.Option.{none}
+use mathlib.Core.Logic.{_⊎_, inl, inr}
+use Rattle.model.specs.declared.ItsDeviceId.{ItsDeviceId}
+use Rattle.model.specs.declared.EventId.{EventId}
+use Rattle.model.specs.declared.CollectionId.{CollectionId}
+use Rattle.model.specs.declared.Command.{Command}
+use Rattle.model.specs.declared.Command.the-variants.{Mapc, Movi, Discard}
+use Rattle.model.specs.declared.Refusal.the-variants.{CollectionUnmapped}
+use Rattle.model.specs.declared.Verdict.the-variants.{Refused}
+use Rattle.model.specs.declared.WriteAnswer.{WriteAnswer}
+use Rattle.model.specs.declared.WriteAnswer.the-variants.{Taken, NotTaken}
+use Rattle.model.specs.Refusal.{writeNumbers}
+use Rattle.model.specs.Step.{check}
+use Rattle.model.specs.History.{partIn, pairNow}
+use Rattle.model.specs.Met.{unitAfter}
+use Rattle.model.specs.Corners.{withLimit, mapc, exampleMet, given}
+use Rattle.model.proofs.Computed.{shown}
+
+abbrev dev : ItsDeviceId
+dev = record { 0 = 5 }
+
+abbrev ev : EventId
+ev = record { 0 = 9 }
+
+abbrev two : CollectionId
+two = record { 0 = 2 }
+
+abbrev three : CollectionId
+three = record { 0 = 3 }
+
+-- actions is 0 with any refusal
+pub nothing-with-a-refusal : (a : WriteAnswer) → (writeNumbers a .refusal ≡ 0) ⊎ (writeNumbers a .actions ≡ 0)
+nothing-with-a-refusal (Taken done actions) = inl refl
+nothing-with-a-refusal (NotTaken r opcode offset done) = inr refl
+
+-- MOVI: collection mapped, then pair mapped. Here neither is
+pub movi-order : check (unitAfter (withLimit 65535) exampleMet) (Movi dev (record { 0 = 8 }) three) ≡ Refused CollectionUnmapped
+unfolding shown
+movi-order = refl
+
+-- an invalid MAPC ends the pairs of its collection: they do not come back with it
+pub mapc-ends : given (mapc ∷ Mapc two (record { 0 = 1 }) false ∷ exampleMet) ≡ 0
+unfolding shown
+mapc-ends = refl
+
+-- the pair is moved from collection 2 to collection 3: an invalid MAPC of 2 leaves it, and one of 3 ends it
+abbrev moved : List Command
+moved = Movi dev ev three ∷ Mapc three (record { 0 = 0 }) true ∷ exampleMet
+
+pub moved-is-left : given (Mapc two (record { 0 = 1 }) false ∷ moved) ≡ 8200
+unfolding shown
+moved-is-left = refl
+
+pub moved-is-ended : given (Mapc three (record { 0 = 0 }) true ∷ Mapc three (record { 0 = 0 }) false ∷ moved) ≡ 0
+unfolding shown
+moved-is-ended = refl
+
+-- a DISCARD ends it, in the history
+pub discard-ends : pairNow dev ev (Discard dev ev ∷ exampleMet) ≡ none
+unfolding partIn
+discard-ends = refl

@@ -1,0 +1,67 @@
+-- Document 01, "The trace": the example, its records in bytes and the lines that it prints.
+-- Assumes nothing.
+use Prim.Native.Nat.{ℕ, zero, suc, _/_, _%_}
+use mathlib.Core.List.{List, [], _∷_, _++_}
+use Rattle.model.specs.Text.{ascii}
+
+-- n bytes of a number, little-endian
+abbrev pub bytesOf : ℕ → ℕ → List ℕ
+bytesOf zero v = []
+bytesOf (suc n) v = v % 256 ∷ bytesOf n (v / 256)
+
+-- 64-bit words, one after the other
+abbrev pub words : List ℕ → List ℕ
+words [] = []
+words (w ∷ ws) = bytesOf 8 w ++ words ws
+
+-- a WR record
+abbrev pub WRs : ℕ → ℕ → ℕ → List ℕ
+WRs offset width value = (ascii "WR" ++ bytesOf 8 offset) ++ (bytesOf 1 width ++ bytesOf 8 value)
+
+-- an RD record
+abbrev pub RDs : ℕ → ℕ → List ℕ
+RDs offset width = (ascii "RD" ++ bytesOf 8 offset) ++ bytesOf 1 width
+
+-- a TR record
+abbrev pub TRs : ℕ → ℕ → List ℕ
+TRs device event = (ascii "TR" ++ bytesOf 4 device) ++ bytesOf 4 event
+
+-- w0 w1 w2 w3 of its four commands
+abbrev pub exampleCommands : List ℕ
+exampleCommands =
+    words (
+    0x500000008 ∷ 3 ∷ 0x8000000000000000 ∷ 0
+    ∷ 9 ∷ 0 ∷ 0x8000000000010002 ∷ 0
+    ∷ 0x50000000A ∷ 0x200800000009 ∷ 2 ∷ 0
+    ∷ 0x500000003 ∷ 9 ∷ 0 ∷ 0
+    ∷ [])
+
+-- CF 65535, 64, 65536, processors 0 and 1. GM at 0x40000000, 128 bytes. WR 0x80 8 0x8000000040000000; RD 0x80 4; WR 0 4 1; WR 0x88 8 128;
+-- RD 0x90 8; TR 5 9; TR 5 8
+unfoldable pub exampleTrace : List ℕ
+exampleTrace =
+    ((ascii "CF" ++ bytesOf 4 65535) ++ (bytesOf 4 64 ++ (bytesOf 4 65536 ++ (bytesOf 1 2 ++ (bytesOf 2 0 ++ bytesOf 2 1)))))
+    ++ (((ascii "GM" ++ bytesOf 8 0x40000000) ++ (bytesOf 4 128 ++ exampleCommands))
+    ++ (WRs 0x80 8 0x8000000040000000
+    ++ (RDs 0x80 4
+    ++ (WRs 0 4 1
+    ++ (WRs 0x88 8 128
+    ++ (RDs 0x90 8
+    ++ (TRs 5 9
+    ++ TRs 5 8)))))))
+
+-- the lines that it prints
+unfoldable pub exampleLines : List ℕ
+exampleLines =
+    ascii "CF 0\nGM 0\nWR 0 0 0 0 0\nRD 0 1073741824\nWR 0 0 0 0 0\nWR 0 0 0 4 1\nAC 1 8200 1\nRD 0 128\nTR 0 8200 1\nTR 8 0 0\n"
+
+-- 01's last corner. After the example, INT (5, 9) and then opcode 0E, writer 192
+unfoldable pub cornerTrace : List ℕ
+cornerTrace =
+    exampleTrace
+    ++ (((ascii "GM" ++ bytesOf 8 0x40000080) ++ (bytesOf 4 64 ++ words (0x500000003 ∷ 9 ∷ 0 ∷ 0 ∷ 0x0E ∷ 0 ∷ 0 ∷ 0 ∷ [])))
+    ++ WRs 0x88 8 192)
+
+-- gives refusal 7, opcode 14, offset 160, done 1, actions 0
+unfoldable pub cornerLines : List ℕ
+cornerLines = exampleLines ++ ascii "GM 0\nWR 7 14 160 1 0\n"

@@ -1,0 +1,140 @@
+-- Document 01: the guest window of "Sizes", the waiting commands of "Registers", and the queue's run of "Refusal numbers" and "Commands".
+-- Numbers here have no upper end, so no address wraps.
+-- Assumes nothing.
+use Prim.Native.Nat.{ℕ, zero, suc, _+_, _-_, _*_, _/_, _%_}
+use mathlib.Core.Bool.{Bool, _&&_}
+use mathlib.Core.List.{List, [], _∷_, _++_}
+use mathlib.Core.Option.{Option, none, some}
+use lib.ListN.{length, drop}
+use lib.Dec.{leb}
+use Rattle.model.specs.declared.ItsRegisters.{ItsRegisters}
+use Rattle.model.specs.declared.ItsState.{ItsState}
+use Rattle.model.specs.declared.ItsAction.{ItsAction}
+use Rattle.model.specs.declared.Command.{Command}
+use Rattle.model.specs.declared.Decoded.{Decoded}
+use Rattle.model.specs.declared.Decoded.the-variants.{Known, Unknown}
+use Rattle.model.specs.declared.Refusal.{Refusal}
+use Rattle.model.specs.declared.Refusal.the-variants.{BudgetExceeded, NotInWindow, OpcodeUnknown}
+use Rattle.model.specs.declared.Verdict.{Verdict}
+use Rattle.model.specs.declared.Verdict.the-variants.{Accepted, Refused}
+use Rattle.model.specs.Choose.{if_then_else_, _or_then_, ifFound}
+use Rattle.model.specs.Arm.{command-size}
+use Rattle.model.specs.Config.{queueBase, queueSize}
+use Rattle.model.specs.Decode.{opcodeOf, decode}
+use Rattle.model.specs.Step.{check, effect, actionsOf}
+
+-- The guest window: a lent run of bytes with the guest address of its first byte.
+pub record Window : Type 0 where
+  pub address : ℕ
+  pub bytes : List ℕ
+
+-- the number that the first n bytes of l are, little-endian
+abbrev pub littleEndian : ℕ → List ℕ → ℕ
+littleEndian zero l = 0
+littleEndian (suc n) [] = 0
+littleEndian (suc n) (b ∷ l) = b + 256 * littleEndian n l
+
+-- four little-endian 64-bit words, from the place i on
+abbrev pub wordsAt : List ℕ → ℕ → List ℕ
+wordsAt l i =
+    littleEndian 8 (drop i l) ∷ littleEndian 8 (drop (i + 8) l) ∷ littleEndian 8 (drop (i + 16) l) ∷ littleEndian 8 (drop (i + 24) l) ∷ []
+
+-- a command can be read exactly if all 32 bytes lie in the window
+abbrev pub inWindow : Window → ℕ → Bool
+inWindow w a = leb (w .address) a && leb (a + command-size) (w .address + length (w .bytes))
+
+-- the words of the command at a guest address
+unfoldable pub commandAt : Window → ℕ → Option (List ℕ)
+commandAt w a = if inWindow w a then some (wordsAt (w .bytes) (a - w .address)) else none
+
+-- writer minus reader, plus the size if negative
+unfoldable pub distance : ℕ → ℕ → ℕ → ℕ
+distance reader writer size = if leb reader writer then writer - reader else writer + size - reader
+
+-- waiting commands: that distance, over 32
+unfoldable pub waiting : ItsRegisters → ℕ
+waiting r = distance (r .creadr) (r .cwriter) (queueSize (r .cbaser)) / command-size
+
+-- where a command of the queue stands: base plus offset, not cut
+abbrev pub commandAddress : ItsRegisters → ℕ → ℕ
+commandAddress r offset = queueBase (r .cbaser) + offset
+
+-- What becomes of the command on which CREADR stands.
+pub data Turn : Type 0 where
+  -- it is carried out
+  passes : Command → Turn
+  -- it is refused: the reason, and the opcode, which is 0 where the command was not read
+  stays : Refusal → ℕ → Turn
+
+-- what a verdict makes of the command
+abbrev pub judged : Verdict → Command → ℕ → Turn
+judged Accepted x opcode = passes x
+judged (Refused r) x opcode = stays r opcode
+
+-- its own checks; an unknown command refuses at once
+abbrev pub turnOn : ItsState → ℕ → Decoded → Turn
+turnOn u opcode (Known x) = judged (check u x) x opcode
+turnOn u opcode (Unknown n) = stays OpcodeUnknown opcode
+
+-- each command in turn: 6, its own checks (7 or 8), 9 last
+unfoldable pub turn : Window → ItsState → Turn
+turn w u =
+    ifFound (commandAt w (commandAddress (u .registers) (u .registers .creadr)))
+    (λ ws. turnOn u (opcodeOf ws) (decode ws))
+    (stays NotInWindow 0)
+
+-- CREADR passes a command
+abbrev pub withRegisters : ItsState → ItsRegisters → ItsState
+withRegisters u r = record { config = u .config; registers = r; devices = u .devices; collections = u .collections; translations = u .translations }
+
+-- CREADR goes on by 32, round the ring
+abbrev pub pastCommand : ItsRegisters → ItsRegisters
+pastCommand r =
+    record { enabled = r .enabled; cbaser = r .cbaser; creadr = (r .creadr + command-size) % queueSize (r .cbaser); cwriter = r .cwriter; basers = r .basers }
+
+-- a command is carried out when CREADR passes it
+unfoldable pub carryOut : ItsState → Command → ItsState
+carryOut u x = withRegisters (effect u x) (pastCommand (effect u x .registers))
+
+-- The run.
+
+-- why a run stopped before its last command
+pub record Stop : Type 0 where
+  pub refusal : Refusal
+  pub opcode : ℕ
+
+-- what a run comes to
+pub record Ran : Type 0 where
+  -- the unit after it
+  pub unit : ItsState
+  -- the number of commands by which CREADR advanced
+  pub done : ℕ
+  -- the actions of the INT and CLEAR carried out, the first first
+  pub actions : List ItsAction
+  pub stopped : Option Stop
+
+-- a run with nothing more to do, or stopped here
+abbrev pub ended : ItsState → Option Stop → Ran
+ended u s = record { unit = u; done = 0; actions = []; stopped = s }
+
+-- one command carried out, and then the rest
+abbrev pub andThen : List ItsAction → Ran → Ran
+andThen handed r = record { unit = r .unit; done = suc (r .done); actions = handed ++ r .actions; stopped = r .stopped }
+
+-- earlier commands stay applied, CREADR stays on the failing one, and that one changes nothing
+abbrev pub goOn : ItsState → Turn → (ItsState → Ran) → Ran
+goOn u (passes x) rest = andThen (actionsOf u x) (rest (carryOut u x))
+goOn u (stays r opcode) rest = ended u (some (record { refusal = r; opcode = opcode }))
+
+-- n waiting commands
+abbrev pub run : Window → ℕ → ItsState → Ran
+run w zero u = ended u none
+run w (suc n) u = goOn u (turn w u) (run w n)
+
+-- an enabled unit runs its queue: 5 is tested once, then each command in turn
+unfoldable pub runQueue : Window → ItsState → Ran
+runQueue w u =
+    if u .registers .enabled
+    then (leb (waiting (u .registers)) (u .config .«command_budget») or ended u (some (record { refusal = BudgetExceeded; opcode = 0 })) then
+    run w (waiting (u .registers)) u)
+    else ended u none

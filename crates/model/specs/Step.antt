@@ -1,0 +1,236 @@
+-- Document 01, "Commands": the checks of a command in order, the first that fails being the answer, and then its effect on the unit. A command
+-- that is not accepted changes nothing.
+-- Assumes nothing.
+use Prim.Native.Nat.{ℕ, _^_}
+use mathlib.Core.Bool.{Bool, true, false, _&&_}
+use mathlib.Core.List.{List, [], _∷_}
+use mathlib.Core.Option.{Option, some}
+use lib.Dec.{leb, ltb}
+use Rattle.model.specs.declared.ItsDeviceId.{ItsDeviceId}
+use Rattle.model.specs.declared.EventId.{EventId}
+use Rattle.model.specs.declared.CollectionId.{CollectionId}
+use Rattle.model.specs.declared.LpiId.{LpiId}
+use Rattle.model.specs.declared.GicVcpuId.{GicVcpuId}
+use Rattle.model.specs.declared.ItsDevice.{ItsDevice}
+use Rattle.model.specs.declared.ItsCollection.{ItsCollection}
+use Rattle.model.specs.declared.Translation.{Translation}
+use Rattle.model.specs.declared.ItsConfig.{ItsConfig}
+use Rattle.model.specs.declared.ItsState.{ItsState}
+use Rattle.model.specs.declared.Delivery.{Delivery}
+use Rattle.model.specs.declared.ItsAction.{ItsAction}
+use Rattle.model.specs.declared.Command.{Command}
+use Rattle.model.specs.declared.Command.the-variants.{Mapd, Mapc, Mapti, Mapi, Movi, Int, Clear, Discard, Inv, Invall, Sync}
+use Rattle.model.specs.declared.Refusal.the-variants.{LpiOutOfRange, DeviceUnmapped, EventBeyondBits, CollectionUnmapped, PairUnmapped, ProcessorUnlisted, ResourceNotFound, TableFull}
+use Rattle.model.specs.declared.Executed.{Executed}
+use Rattle.model.specs.declared.Executed.the-variants.{NotDone, Done, Acted}
+use Rattle.model.specs.declared.Verdict.{Verdict}
+use Rattle.model.specs.declared.Verdict.the-variants.{Accepted, Refused}
+use Rattle.model.specs.Choose.{if_then_else_, _or_then_, whenFound, ifFound, isFound, listOf}
+use Rattle.model.specs.Arm.{LPI-base}
+use Rattle.model.specs.Table.{look, room, store, dropAll}
+use Rattle.model.specs.Keys.{sameCollection, isDevice, isCollection, isPair, ofDevice, aDevice, aCollection, aTranslation, noDevice, noCollection, noTranslation, delivery, eventAsLpi}
+use Rattle.model.specs.Config.{listed}
+
+-- What the unit holds: the lowest-numbered used record counts.
+
+-- the record of a device
+abbrev pub deviceOf : ItsState → ItsDeviceId → Option ItsDevice
+deviceOf u d = look (isDevice d) (u .devices)
+
+-- the record of a collection
+abbrev pub collectionOf : ItsState → CollectionId → Option ItsCollection
+collectionOf u c = look (isCollection c) (u .collections)
+
+-- the record of a pair
+abbrev pub translationOf : ItsState → ItsDeviceId → EventId → Option Translation
+translationOf u d e = look (isPair d e) (u .translations)
+
+-- where a message of the pair goes: its LPI, and the processor of its collection; nothing where pair or collection is not mapped
+unfoldable pub deliveryIn : ItsState → ItsDeviceId → EventId → Option Delivery
+deliveryIn u d e =
+    whenFound (translationOf u d e) (λ r.
+    whenFound (collectionOf u (r .collection)) (λ k.
+    some (delivery (r .lpi) (k .target))))
+
+-- The checks.
+
+-- LPI in 8192..limit
+unfoldable pub lpiInRange : ItsConfig → LpiId → Bool
+lpiInRange k l = leb LPI-base (l .0) && leb (l .0) (k .«lpi_limit»)
+
+-- event below 2^bits
+unfoldable pub eventBelow : ℕ → EventId → Bool
+eventBelow bits e = ltb (e .0) (2 ^ bits)
+
+-- device mapped
+abbrev pub deviceMapped : ItsState → ItsDeviceId → Bool
+deviceMapped u d = isFound (deviceOf u d)
+
+-- event below 2^bits, bits being the device's
+abbrev pub eventFits : ItsState → ItsDeviceId → EventId → Bool
+eventFits u d e = ifFound (deviceOf u d) (λ r. eventBelow (r .«event_bits») e) false
+
+-- collection mapped
+abbrev pub collectionMapped : ItsState → CollectionId → Bool
+collectionMapped u c = isFound (collectionOf u c)
+
+-- pair mapped
+abbrev pub pairMapped : ItsState → ItsDeviceId → EventId → Bool
+pairMapped u d e = isFound (translationOf u d e)
+
+-- pair translates
+abbrev pub pairTranslates : ItsState → ItsDeviceId → EventId → Bool
+pairTranslates u d e = isFound (deliveryIn u d e)
+
+-- the command needs no new record, or its table is not full
+abbrev pub roomForDevice : ItsState → ItsDeviceId → Bool
+roomForDevice u d = room (isDevice d) (λ r. r .used) (u .devices)
+
+-- of a MAPC
+abbrev pub roomForCollection : ItsState → CollectionId → Bool
+roomForCollection u c = room (isCollection c) (λ r. r .used) (u .collections)
+
+-- of a MAPTI or MAPI
+abbrev pub roomForPair : ItsState → ItsDeviceId → EventId → Bool
+roomForPair u d e = room (isPair d e) (λ r. r .used) (u .translations)
+
+-- MAPTI and MAPI: LPI in 8192..limit; device mapped; event below 2^bits; collection mapped; 9 last
+unfoldable pub checkMapping : ItsState → ItsDeviceId → EventId → LpiId → CollectionId → Verdict
+checkMapping u d e l c =
+    lpiInRange (u .config) l or Refused LpiOutOfRange then
+    deviceMapped u d or Refused DeviceUnmapped then
+    eventFits u d e or Refused EventBeyondBits then
+    collectionMapped u c or Refused CollectionUnmapped then
+    roomForPair u d e or Refused TableFull then
+    Accepted
+
+-- the checks of a command, in order
+abbrev pub check : ItsState → Command → Verdict
+check u (Mapd d bits true) = roomForDevice u d or Refused TableFull then Accepted
+check u (Mapd d bits false) = Accepted
+check u (Mapc c p true) =
+    listed (u .config) p or Refused ProcessorUnlisted then
+    roomForCollection u c or Refused TableFull then
+    Accepted
+check u (Mapc c p false) = Accepted
+check u (Mapti d e l c) = checkMapping u d e l c
+check u (Mapi d e c) = checkMapping u d e (eventAsLpi e) c
+check u (Movi d e c) =
+    collectionMapped u c or Refused CollectionUnmapped then
+    pairMapped u d e or Refused PairUnmapped then
+    Accepted
+check u (Int d e) = pairTranslates u d e or Refused ResourceNotFound then Accepted
+check u (Clear d e) = pairTranslates u d e or Refused ResourceNotFound then Accepted
+check u (Discard d e) = pairMapped u d e or Refused PairUnmapped then Accepted
+check u (Inv d e) = pairMapped u d e or Refused PairUnmapped then Accepted
+check u (Invall c) = collectionMapped u c or Refused CollectionUnmapped then Accepted
+check u Sync = Accepted
+
+-- The effects. Each says which of the three tables changes, and how.
+
+-- the unit with other devices
+abbrev pub withDevices : ItsState → List ItsDevice → ItsState
+withDevices u ds = record { config = u .config; registers = u .registers; devices = ds; collections = u .collections; translations = u .translations }
+
+-- the unit with other collections
+abbrev pub withCollections : ItsState → List ItsCollection → ItsState
+withCollections u cs = record { config = u .config; registers = u .registers; devices = u .devices; collections = cs; translations = u .translations }
+
+-- the unit with other translations
+abbrev pub withTranslations : ItsState → List Translation → ItsState
+withTranslations u ts = record { config = u .config; registers = u .registers; devices = u .devices; collections = u .collections; translations = ts }
+
+-- MAPD, valid: store the event bits, keep translations
+unfoldable pub storeDevice : ItsDeviceId → ℕ → ItsState → ItsState
+storeDevice d bits u = withDevices u (store (isDevice d) (λ r. r .used) (aDevice d bits) (u .devices))
+
+-- MAPC, valid: store
+unfoldable pub storeCollection : CollectionId → GicVcpuId → ItsState → ItsState
+storeCollection c p u = withCollections u (store (isCollection c) (λ r. r .used) (aCollection c p) (u .collections))
+
+-- MAPTI and MAPI: store
+unfoldable pub storeTranslation : ItsDeviceId → EventId → LpiId → CollectionId → ItsState → ItsState
+storeTranslation d e l c u = withTranslations u (store (isPair d e) (λ r. r .used) (aTranslation d e l c) (u .translations))
+
+-- a record of a pair that is in the collection. Should a pair be held twice, the record that counts says in which collection the pair is
+abbrev pub pairIn : CollectionId → List Translation → Translation → Bool
+pairIn c ts r = r .used && ifFound (look (isPair (r .device) (r .event)) ts) (λ a. sameCollection (a .collection) c) false
+
+-- MAPD, not valid: drop the device and all its translations
+unfoldable pub dropDevice : ItsDeviceId → ItsState → ItsState
+dropDevice d u = withTranslations (withDevices u (dropAll (isDevice d) noDevice (u .devices))) (dropAll (ofDevice d) noTranslation (u .translations))
+
+-- MAPC, not valid: drop the collection and all its translations
+unfoldable pub dropCollection : CollectionId → ItsState → ItsState
+dropCollection c u =
+    withTranslations (withCollections u (dropAll (isCollection c) noCollection (u .collections)))
+    (dropAll (pairIn c (u .translations)) noTranslation (u .translations))
+
+-- DISCARD: drop
+unfoldable pub dropPair : ItsDeviceId → EventId → ItsState → ItsState
+dropPair d e u = withTranslations u (dropAll (isPair d e) noTranslation (u .translations))
+
+-- MOVI: new collection; the pair keeps its LPI
+unfoldable pub movePair : ItsDeviceId → EventId → CollectionId → ItsState → ItsState
+movePair d e c u = ifFound (translationOf u d e) (λ r. storeTranslation d e (r .lpi) c u) u
+
+-- the effect of a command that is accepted
+abbrev pub effect : ItsState → Command → ItsState
+effect u (Mapd d bits true) = storeDevice d bits u
+effect u (Mapd d bits false) = dropDevice d u
+effect u (Mapc c p true) = storeCollection c p u
+effect u (Mapc c p false) = dropCollection c u
+effect u (Mapti d e l c) = storeTranslation d e l c u
+effect u (Mapi d e c) = storeTranslation d e (eventAsLpi e) c u
+effect u (Movi d e c) = movePair d e c u
+effect u (Int d e) = u
+effect u (Clear d e) = u
+effect u (Discard d e) = dropPair d e u
+effect u (Inv d e) = u
+effect u (Invall c) = u
+effect u Sync = u
+
+-- the action of INT (pending) and CLEAR (not pending)
+abbrev pub actionTo : Bool → Delivery → ItsAction
+actionTo pending a = record { target = a .target; lpi = a .lpi; pending = pending }
+
+-- the action for a pair that translates
+unfoldable pub actionsOn : Bool → ItsState → ItsDeviceId → EventId → List ItsAction
+actionsOn pending u d e = listOf (whenFound (deliveryIn u d e) (λ a. some (actionTo pending a)))
+
+-- what a command that is accepted hands to the host: one action, or none
+abbrev pub actionsOf : ItsState → Command → List ItsAction
+actionsOf u (Mapd d bits valid) = []
+actionsOf u (Mapc c p valid) = []
+actionsOf u (Mapti d e l c) = []
+actionsOf u (Mapi d e c) = []
+actionsOf u (Movi d e c) = []
+actionsOf u (Int d e) = actionsOn true u d e
+actionsOf u (Clear d e) = actionsOn false u d e
+actionsOf u (Discard d e) = []
+actionsOf u (Inv d e) = []
+actionsOf u (Invall c) = []
+actionsOf u Sync = []
+
+-- the command is accepted
+abbrev pub isAccepted : Verdict → Bool
+isAccepted Accepted = true
+isAccepted (Refused r) = false
+
+-- all its checks hold
+abbrev pub accepts : ItsState → Command → Bool
+accepts u x = isAccepted (check u x)
+
+-- a command's checks and then its effect: the unit after it, and what it comes to
+unfoldable pub stepped : ItsState → Command → ItsState
+stepped u x = if accepts u x then effect u x else u
+
+-- what a verdict and the actions come to
+abbrev pub executedBy : Verdict → List ItsAction → Executed
+executedBy (Refused r) handed = NotDone r
+executedBy Accepted [] = Done
+executedBy Accepted (a ∷ handed) = Acted a
+
+-- what carrying out the command comes to
+unfoldable pub executed : ItsState → Command → Executed
+executed u x = executedBy (check u x) (actionsOf u x)
