@@ -1,0 +1,111 @@
+//! Refusals by kind of record; registers by width.
+
+use super::counts::Counts;
+use super::state::Seen;
+use super::{Part, rows};
+use crate::answers::Answer;
+use crate::record::Record;
+use crate::text::REGISTERS;
+use crate::unit::IDENTIFICATION;
+
+/// The refusals of each kind of line. 10 needs a short row, which no trace
+/// lends, and 11 is the C call's own.
+pub struct Lines;
+
+impl Part for Lines {
+    fn rows(&self) -> Vec<(String, Vec<String>)> {
+        rows(&[
+            ("CF", &["0", "1"]),
+            ("GM", &["0"]),
+            ("RD", &["0", "1", "2", "3"]),
+            ("WR", &["0", "1", "2", "3", "4", "5", "6", "7", "8", "9"]),
+            ("TR", &["0", "1", "8"]),
+            ("AC", &["pending", "clear"]),
+        ])
+    }
+
+    fn see(&mut self, seen: &Seen<'_>, counts: &mut Counts) {
+        let (row, refusal) = match seen.answer {
+            Answer::Cf(refusal) => ("CF", *refusal),
+            Answer::Gm => ("GM", 0),
+            Answer::Rd(result) => ("RD", result.err().unwrap_or(0)),
+            Answer::Wr(written) => ("WR", written.refusal),
+            Answer::Tr(result) => ("TR", result.err().unwrap_or(0)),
+        };
+        counts.add(row, &refusal.to_string());
+        if let Answer::Wr(written) = seen.answer {
+            for action in &written.actions {
+                counts.add("AC", if action.pending { "pending" } else { "clear" });
+            }
+        }
+    }
+}
+
+/// Every register and every high half at widths 0 to 9, on a configured unit.
+pub struct Accesses;
+
+impl Part for Accesses {
+    fn rows(&self) -> Vec<(String, Vec<String>)> {
+        let mut places = Vec::new();
+        for register in &REGISTERS {
+            places.push(register.name.to_string());
+            if register.bytes == 8 {
+                places.push(format!("{}+4", register.name));
+            }
+        }
+        places.extend(
+            [
+                "inside a register",
+                "identification",
+                "elsewhere",
+                "past the frame",
+            ]
+            .map(String::from),
+        );
+        let widths: Vec<String> = (0..10).map(|width| format!("w{width}")).collect();
+        ["rd", "wr"]
+            .iter()
+            .flat_map(|kind| places.iter().map(move |place| format!("{kind} {place}")))
+            .map(|row| (row, widths.clone()))
+            .collect()
+    }
+
+    fn see(&mut self, seen: &Seen<'_>, counts: &mut Counts) {
+        let (kind, offset, width) = match seen.record {
+            Record::Rd { offset, width } => ("rd", *offset, *width),
+            Record::Wr { offset, width, .. } => ("wr", *offset, *width),
+            _ => return,
+        };
+        let Some(configuration) = &seen.before.configuration else {
+            return;
+        };
+        if width < 10 {
+            let place = place(offset, u64::from(configuration.frame));
+            counts.add(&format!("{kind} {place}"), &format!("w{width}"));
+        }
+    }
+}
+
+fn place(offset: u64, frame: u64) -> String {
+    for register in &REGISTERS {
+        let Some(within) = offset.checked_sub(register.offset) else {
+            continue;
+        };
+        if within == 0 {
+            return register.name.into();
+        }
+        if within < register.bytes {
+            return match within {
+                4 => format!("{}+4", register.name),
+                _ => "inside a register".into(),
+            };
+        }
+    }
+    if IDENTIFICATION.contains(&offset) {
+        "identification".into()
+    } else if offset < frame {
+        "elsewhere".into()
+    } else {
+        "past the frame".into()
+    }
+}

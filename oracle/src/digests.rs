@@ -1,0 +1,35 @@
+//! Traces by name, and a digest of their answers to compare two builds by.
+
+use crate::answers::answers;
+use crate::exhaustive::{self, Named};
+use crate::explain::reasons;
+use crate::generate::trace_for;
+
+/// The traces of the first seeds.
+pub fn seeds(count: u64) -> impl Iterator<Item = Named> {
+    (0..count).map(|seed| (format!("seed-{seed}"), trace_for(seed)))
+}
+
+/// The trace of a seed's name or of an exhaustive trace's.
+pub fn trace_named(name: &str) -> Option<Vec<u8>> {
+    if let Some(seed) = name.strip_prefix("seed-") {
+        return seed.parse().ok().map(trace_for);
+    }
+    exhaustive::traces()
+        .find(|(found, _)| found == name)
+        .map(|(_, trace)| trace)
+}
+
+/// The name, a digest of the lines, and one of the Rust's words for refusals.
+pub fn digest_line(name: &str, trace: &[u8]) -> String {
+    let lines = digest(&answers(trace).lines);
+    let reasons = digest(reasons(trace).as_bytes());
+    format!("{name} {lines:016x} {reasons:016x}\n")
+}
+
+/// FNV-1a over 64 bits.
+fn digest(bytes: &[u8]) -> u64 {
+    bytes.iter().fold(0xcbf2_9ce4_8422_2325, |hash, byte| {
+        (hash ^ u64::from(*byte)).wrapping_mul(0x100_0000_01b3)
+    })
+}

@@ -1,0 +1,78 @@
+//! A trace as text with its answers as comments, and the Rust's own words for
+//! each refusal of a write. It still assembles to the same trace.
+
+use arm_vgic::VgicError;
+
+use crate::answers::{Answer, Watcher, put_answer, watched_answers};
+use crate::record::{Malformed, Record};
+use crate::text;
+use crate::unit::Unit;
+
+pub fn explain(trace: &[u8]) -> String {
+    let mut explained = Explained::default();
+    watched_answers(trace, &mut explained);
+    explained.text
+}
+
+/// The Rust's words for each refused write, one a line.
+pub fn reasons(trace: &[u8]) -> String {
+    let mut reasons = Reasons::default();
+    watched_answers(trace, &mut reasons);
+    reasons.0
+}
+
+#[derive(Default)]
+struct Explained {
+    text: String,
+}
+
+impl Watcher for Explained {
+    fn answered(&mut self, record: &Record, answer: &Answer, _: Option<&Unit>) {
+        self.text += &text::show(record);
+        let mut lines = Vec::new();
+        put_answer(&mut lines, answer);
+        for line in String::from_utf8_lossy(&lines).lines() {
+            self.text += &format!("#   {line}\n");
+        }
+        if let Some(reason) = reason(answer) {
+            self.text += &format!("#   ({reason})\n");
+        }
+    }
+
+    fn malformed(&mut self, malformed: &Malformed) {
+        self.text += &format!("#   ?? {}\n", malformed.offset);
+    }
+}
+
+#[derive(Default)]
+struct Reasons(String);
+
+impl Watcher for Reasons {
+    fn answered(&mut self, _: &Record, answer: &Answer, _: Option<&Unit>) {
+        if let Some(reason) = reason(answer) {
+            self.0 += &reason;
+            self.0.push('\n');
+        }
+    }
+
+    fn malformed(&mut self, _: &Malformed) {}
+}
+
+fn reason(answer: &Answer) -> Option<String> {
+    let Answer::Wr(written) = answer else {
+        return None;
+    };
+    Some(match written.error.as_ref()? {
+        VgicError::InvalidAccess { detail, .. }
+        | VgicError::InvalidConfig { detail }
+        | VgicError::InvalidItsCommand { detail, .. }
+        | VgicError::Unsupported { detail, .. } => detail.clone(),
+        VgicError::ItsCommandBudgetExceeded { budget, .. } => {
+            format!("more commands wait than the budget of {budget}")
+        }
+        VgicError::GuestMemory {
+            address, detail, ..
+        } => format!("{detail} at {address:#x}"),
+        VgicError::ResourceNotFound { resource, .. } => format!("{resource} not found"),
+    })
+}

@@ -1,0 +1,244 @@
+//! A guest that writes a trace: it keeps a ring, posts commands and believes
+//! things about the unit.
+
+use super::believed::{Believed, Expected};
+use super::keys::{self, Keys};
+use super::random::Random;
+use super::ring::{PLACES_OF_A_PAGE, Ring};
+use crate::command::VALID;
+use crate::fields::{BYTES_OF_A_COMMAND, Words};
+use crate::record::{Configuration, LONGEST_WINDOW, Record};
+
+pub const CTLR: u64 = 0x0;
+pub const CBASER: u64 = 0x80;
+pub const CWRITER: u64 = 0x88;
+pub const CREADR: u64 = 0x90;
+pub const BASER: u64 = 0x100;
+
+const PLACES_OF_A_WINDOW: usize = LONGEST_WINDOW / BYTES_OF_A_COMMAND;
+
+const BASES: [u64; 6] = [
+    0x1000,
+    0x4000_0000,
+    0xffff_f000,
+    0x1_0000_0000,
+    0x0000_8000_1234_5000,
+    // The last page below 2^52: the ring's second page lies beyond.
+    0x000f_ffff_ffff_f000,
+];
+
+pub struct Guest {
+    pub random: Random,
+    pub configuration: Configuration,
+    pub keys: Keys,
+    pub believed: Believed,
+    pub ring: Ring,
+    pub enabled: bool,
+    pub trace: Vec<u8>,
+    window: (u64, usize),
+}
+
+/// Where a run of the ring should have stopped.
+#[derive(Clone, Copy, Debug, Eq, PartialEq)]
+pub enum Stop {
+    Nowhere,
+    Budget,
+    Window,
+    Refused,
+    Full,
+}
+
+impl Guest {
+    /// A guest of a unit just configured.
+    pub fn new(mut random: Random) -> Self {
+        let configuration = keys::configuration(&mut random);
+        Self::with(random, configuration)
+    }
+
+    pub fn with(mut random: Random, configuration: Configuration) -> Self {
+        let keys = Keys::choose(&mut random, &configuration);
+        let mut guest = Self {
+            random,
+            configuration: configuration.clone(),
+            keys,
+            believed: Believed::default(),
+            ring: Ring::default(),
+            enabled: false,
+            trace: Vec::new(),
+            window: (0, 0),
+        };
+        guest.configure(configuration);
+        guest
+    }
+
+    pub fn record(&mut self, record: &Record) {
+        record.encode(&mut self.trace);
+    }
+
+    /// A CF that should be accepted. The window stays.
+    pub fn configure(&mut self, configuration: Configuration) {
+        self.record(&Record::Cf(configuration.clone()));
+        self.keys = Keys::choose(&mut self.random, &configuration);
+        self.configuration = configuration;
+        self.believed = Believed::default();
+        self.ring = Ring::default();
+        self.enabled = false;
+    }
+
+    pub fn read(&mut self, offset: u64, width: u8) {
+        self.record(&Record::Rd { offset, width });
+    }
+
+    pub fn write(&mut self, offset: u64, width: u8, value: u64) {
+        self.record(&Record::Wr {
+            offset,
+            width,
+            value,
+        });
+    }
+
+    pub fn translate(&mut self, pair: (u32, u32)) {
+        self.record(&Record::Tr {
+            device: pair.0,
+            event: pair.1,
+        });
+    }
+
+    /// Gives a disabled unit a ring, whole or by halves.
+    pub fn set_ring(&mut self, base: u64, pages: usize) {
+        let beside = self.random.number() & 0x7ff0_0000_0000_0f00;
+        let valid = if self.random.once_in(4) { 0 } else { VALID };
+        let value = base | (pages as u64 - 1) | beside | valid;
+        match self.random.below(4) {
+            0 => {
+                self.write(CBASER, 4, value | 0xabcd_0000_0000_0000);
+                self.write(CBASER + 4, 4, value >> 32);
+            }
+            1 => {
+                self.write(CBASER + 4, 4, value >> 32);
+                self.write(CBASER, 4, value);
+            }
+            _ => self.write(CBASER, 8, value),
+        }
+        self.ring = Ring::new(base, pages);
+    }
+
+    pub fn some_base(&mut self) -> u64 {
+        self.random.pick(&BASES)
+    }
+
+    /// Disables the unit; any even value does.
+    pub fn disable(&mut self) {
+        let value = self.random.pick(&[0, 0, 2, 0xffff_fffe]);
+        self.write(CTLR, 4, value);
+        self.enabled = false;
+    }
+
+    /// Enables the unit, which runs its ring; any odd value does.
+    pub fn enable(&mut self) -> Stop {
+        let value = self.random.pick(&[1, 1, 3, u64::MAX]);
+        self.write(CTLR, 4, value);
+        self.enabled = true;
+        self.run()
+    }
+
+    /// Disables the unit, gives it the same ring again and enables it.
+    pub fn start_again(&mut self) {
+        let (base, pages) = (self.ring.base, self.ring.places.len() / PLACES_OF_A_PAGE);
+        self.disable();
+        self.set_ring(base, pages);
+        self.enable();
+    }
+
+    /// Lends a run of bytes of the ring's memory, past its end as well.
+    pub fn lend(&mut self, address: u64, length: usize) {
+        let bytes = (0..length)
+            .map(|at| self.ring.byte(address.wrapping_add(at as u64)))
+            .collect();
+        self.window = (address, length);
+        self.record(&Record::Gm { address, bytes });
+    }
+
+    /// Lends what waits up to the given writer, as far as the ring's end and
+    /// one window go.
+    pub fn lend_up_to(&mut self, writer: usize) {
+        let ring = &self.ring;
+        let end = if writer >= ring.reader {
+            writer
+        } else {
+            ring.places.len()
+        };
+        let count = (end - ring.reader).min(PLACES_OF_A_WINDOW);
+        self.lend(ring.address(ring.reader), count * BYTES_OF_A_COMMAND);
+    }
+
+    /// Puts commands into guest memory behind the writer; answers the place
+    /// after them.
+    pub fn put(&mut self, commands: &[Words]) -> usize {
+        let mut place = self.ring.writer;
+        for command in commands {
+            self.ring.places[place] = *command;
+            place = self.ring.after(place, 1);
+        }
+        place
+    }
+
+    /// Writes CWRITER in one of the forms that mean the same.
+    pub fn write_writer(&mut self, place: usize) -> Stop {
+        let value = (place * BYTES_OF_A_COMMAND) as u64;
+        match self.random.below(6) {
+            0 => self.write(CWRITER, 8, value | 0xfff0_0000),
+            1 | 2 => self.write(CWRITER, 4, value | 0xffff_ffff_0000_0000),
+            _ => self.write(CWRITER, 8, value),
+        }
+        self.ring.writer = place;
+        self.run()
+    }
+
+    /// Asks an enabled unit to go on, without a change of the writer.
+    pub fn retry(&mut self) -> Stop {
+        match self.random.below(5) {
+            0 | 1 => self.enable(),
+            2 => {
+                self.disable();
+                self.enable()
+            }
+            3 => self.write_writer(self.ring.writer),
+            _ => {
+                let value = self.random.number();
+                self.write(CWRITER + 4, 4, value);
+                self.run()
+            }
+        }
+    }
+
+    /// What the unit should do with the ring now.
+    fn run(&mut self) -> Stop {
+        if !self.enabled || self.ring.waiting() == 0 {
+            return Stop::Nowhere;
+        }
+        if self.ring.waiting() > self.configuration.budget as usize {
+            return Stop::Budget;
+        }
+        while self.ring.reader != self.ring.writer {
+            let place = self.ring.reader;
+            if !self.in_window(self.ring.address(place)) {
+                return Stop::Window;
+            }
+            let command = self.ring.places[place];
+            match self.believed.carry_out(&command, &self.configuration) {
+                Expected::Accepted => self.ring.reader = self.ring.after(place, 1),
+                Expected::Refused => return Stop::Refused,
+                Expected::Full => return Stop::Full,
+            }
+        }
+        Stop::Nowhere
+    }
+
+    fn in_window(&self, address: u64) -> bool {
+        let (start, length) = self.window;
+        address
+            .checked_sub(start)
+            .is_some_and(|within| within + BYTES_OF_A_COMMAND as u64 <= length as u64)
+    }
+}

@@ -1,0 +1,158 @@
+//! The fixed list of traces with the Rust's answers: made, and held against.
+
+use std::fs;
+use std::path::Path;
+
+use crate::answers::answers;
+use crate::exhaustive::{self, Named};
+use crate::generate::{self, trace_for};
+use crate::room::PROGRAM_BUFFER;
+use crate::text;
+
+/// How many seeds of each place in the list of families are recorded, and how
+/// long such a trace may be; every family has shorter ones.
+const SEEDS_OF_A_FAMILY: usize = 3;
+const LONGEST_SEED: usize = 12_000;
+/// Small exhaustive traces are joined up to this length.
+const LONGEST_JOINED: usize = 16_000;
+/// The whole list stays below this.
+const MOST_BYTES: usize = 1_000_000;
+
+/// The list: every text of the folder, seeds, and exhaustive parts.
+pub fn list(texts: &Path) -> Result<Vec<Named>, String> {
+    let mut traces = written_by_hand(texts)?;
+    traces.extend(seeds());
+    for (name, parts) in exhaustive::some() {
+        traces.extend(joined(&format!("exhaustive-{name}"), &parts));
+    }
+    Ok(traces)
+}
+
+/// Writes NAME.trace and NAME.expect for every trace of the list; answers how
+/// many there are, and their bytes.
+pub fn record(texts: &Path, folder: &Path) -> Result<(usize, usize), String> {
+    fs::create_dir_all(folder).map_err(|error| format!("{}: {error}", folder.display()))?;
+    let traces = list(texts)?;
+    let mut bytes = 0;
+    for (name, trace) in &traces {
+        let lines = answers(trace).lines;
+        if trace.len() > PROGRAM_BUFFER || lines.len() > PROGRAM_BUFFER {
+            return Err(format!("{name} is too long for itstrace"));
+        }
+        bytes += trace.len() + lines.len();
+        write(folder, &format!("{name}.trace"), trace)?;
+        write(folder, &format!("{name}.expect"), &lines)?;
+    }
+    if bytes > MOST_BYTES {
+        return Err(format!("the list has {bytes} bytes, over {MOST_BYTES}"));
+    }
+    Ok((traces.len(), bytes))
+}
+
+/// Answers every NAME.trace of a folder and compares with NAME.expect.
+pub fn check(folder: &Path) -> Result<usize, String> {
+    let names = names(folder, "trace")?;
+    for name in &names {
+        let lines = answers(&read(folder, &format!("{name}.trace"))?).lines;
+        let expected = read(folder, &format!("{name}.expect"))?;
+        if let Some(difference) = first_difference(&lines, &expected) {
+            return Err(format!("{name}: {difference}"));
+        }
+    }
+    Ok(names.len())
+}
+
+/// The first line in which two runs of lines differ.
+pub fn first_difference(lines: &[u8], expected: &[u8]) -> Option<String> {
+    if lines == expected {
+        return None;
+    }
+    let lines = String::from_utf8_lossy(lines);
+    let expected = String::from_utf8_lossy(expected);
+    let (mut ours, mut theirs) = (lines.lines(), expected.lines());
+    let mut number = 1;
+    loop {
+        match (ours.next(), theirs.next()) {
+            (Some(one), Some(other)) if one == other => number += 1,
+            (one, other) => {
+                let one = one.unwrap_or("no line");
+                let other = other.unwrap_or("no line");
+                return Some(format!("line {number} is `{one}`, expected `{other}`"));
+            }
+        }
+    }
+}
+
+fn written_by_hand(folder: &Path) -> Result<Vec<Named>, String> {
+    names(folder, "txt")?
+        .into_iter()
+        .map(|name| {
+            let text = read(folder, &format!("{name}.txt"))?;
+            let text = String::from_utf8(text).map_err(|error| format!("{name}.txt: {error}"))?;
+            match text::assemble(&text) {
+                Ok(trace) => Ok((name, trace)),
+                Err(fault) => Err(format!("{name}.txt: line {}: {}", fault.line, fault.reason)),
+            }
+        })
+        .collect()
+}
+
+fn seeds() -> Vec<Named> {
+    let mut traces = Vec::new();
+    for place in 0..generate::PLACES {
+        traces.extend(
+            (place..)
+                .step_by(generate::PLACES as usize)
+                .map(|seed| (format!("seed-{seed}"), trace_for(seed)))
+                .filter(|(_, trace)| trace.len() <= LONGEST_SEED)
+                .take(SEEDS_OF_A_FAMILY),
+        );
+    }
+    traces
+}
+
+/// Traces run one after the other are one trace, since each begins with a CF.
+fn joined(name: &str, parts: &[Named]) -> Vec<Named> {
+    let mut traces: Vec<Vec<u8>> = vec![Vec::new()];
+    for (_, part) in parts {
+        let last = traces.last_mut().expect("there is one from the start");
+        if !last.is_empty() && last.len() + part.len() > LONGEST_JOINED {
+            traces.push(part.clone());
+        } else {
+            last.extend(part);
+        }
+    }
+    let numbered = traces.into_iter().enumerate();
+    numbered
+        .map(|(number, trace)| (format!("{name}-{number:02}"), trace))
+        .collect()
+}
+
+/// The names, without their ending and in order, of a folder's files.
+fn names(folder: &Path, ending: &str) -> Result<Vec<String>, String> {
+    let place = folder.display();
+    let entries = fs::read_dir(folder).map_err(|error| format!("{place}: {error}"))?;
+    let mut names = Vec::new();
+    for entry in entries {
+        let path = entry.map_err(|error| format!("{place}: {error}"))?.path();
+        if path.extension().is_some_and(|found| found == ending) {
+            let name = path.file_stem().and_then(|stem| stem.to_str());
+            names.push(
+                name.ok_or(format!("{place}: a name is not text"))?
+                    .to_string(),
+            );
+        }
+    }
+    names.sort();
+    Ok(names)
+}
+
+fn read(folder: &Path, name: &str) -> Result<Vec<u8>, String> {
+    let path = folder.join(name);
+    fs::read(&path).map_err(|error| format!("{}: {error}", path.display()))
+}
+
+fn write(folder: &Path, name: &str, bytes: &[u8]) -> Result<(), String> {
+    let path = folder.join(name);
+    fs::write(&path, bytes).map_err(|error| format!("{}: {error}", path.display()))
+}

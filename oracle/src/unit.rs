@@ -1,0 +1,219 @@
+//! One configured unit: the published controller, and what 01 adds around it.
+
+use std::sync::Arc;
+
+use arm_vgic::{AccessWidth, Delivered, EventId, GITS_CBASER, GITS_CREADR, GicV3Config};
+use arm_vgic::{GicV3Controller, ItsDeviceId, VgicError};
+
+use crate::fields::{BYTES_OF_A_COMMAND, Fields, Words};
+use crate::record::Configuration;
+use crate::tables::{Table, Tables};
+use crate::window::Window;
+
+/// Where accesses are answered 3 in place of the identification registers.
+pub const IDENTIFICATION: std::ops::RangeInclusive<u64> = 0xffd0..=0xffff;
+
+pub struct Unit {
+    controller: GicV3Controller,
+    window: Arc<Window>,
+    tables: Tables,
+}
+
+/// What a write answered, and what the Rust did on the way.
+#[derive(Debug, Default)]
+pub struct Written {
+    pub refusal: u8,
+    pub opcode: u8,
+    pub offset: u64,
+    pub done: u64,
+    pub actions: Vec<Delivered>,
+    /// The Rust's own error, with its text.
+    pub error: Option<VgicError>,
+    /// The table that a 9 found full.
+    pub full: Option<Table>,
+    /// The commands read: `done` that were carried out, then one if it was refused.
+    pub commands: Vec<Words>,
+    /// CREADR before the write, and the size of the ring.
+    pub reader: u64,
+    pub size: u64,
+}
+
+impl Unit {
+    /// A fresh unit, exactly if the configuration is within 01's sizes.
+    pub fn configure(configuration: &Configuration, window: Arc<Window>) -> Option<Self> {
+        if !configuration.within_sizes() {
+            return None;
+        }
+        let config = GicV3Config::new(
+            configuration.limit,
+            configuration.budget as usize,
+            u64::from(configuration.frame),
+        );
+        Some(Self {
+            controller: GicV3Controller::new(config, &configuration.processors, window.clone()),
+            window,
+            tables: Tables::default(),
+        })
+    }
+
+    pub fn read(&self, offset: u64, width: u8) -> Result<u64, u8> {
+        let width = self.before_the_register(offset, width)?;
+        self.controller
+            .read_its(offset, width)
+            .map_err(|error| number(&error))
+    }
+
+    pub fn write(&mut self, offset: u64, width: u8, value: u64) -> Written {
+        let width = match self.before_the_register(offset, width) {
+            Ok(width) => width,
+            Err(refusal) => {
+                return Written {
+                    refusal,
+                    ..Written::default()
+                };
+            }
+        };
+        let reader = self.register(GITS_CREADR);
+        let outcome = self.controller.write_its(offset, width, value);
+        let written = Written {
+            reader,
+            size: self.ring_size(),
+            done: self.advance(offset, reader),
+            commands: self.window.take_commands(),
+            actions: self.controller.take_delivered(),
+            ..Written::default()
+        };
+        self.follow(match outcome {
+            Ok(()) => written,
+            Err(error) => self.refused(written, error),
+        })
+    }
+
+    pub fn translate(&self, device: u32, event: u32) -> Result<(u32, usize), u8> {
+        self.controller
+            .translate(ItsDeviceId::new(device), EventId::new(event))
+            .map(|(lpi, processor)| (lpi.raw(), processor.raw()))
+            .map_err(|error| number(&error))
+    }
+
+    pub fn tables(&self) -> &Tables {
+        &self.tables
+    }
+
+    /// The answers that do not come from the Rust: 2 for a width that it has no
+    /// name for, and 3. Before 3 stand the frame and alignment, which the Rust
+    /// is asked about by a read: it changes nothing, and with no identification
+    /// register at hand those are the only tests left at these offsets.
+    fn before_the_register(&self, offset: u64, width: u8) -> Result<AccessWidth, u8> {
+        let width = match width {
+            1 => AccessWidth::Byte,
+            2 => AccessWidth::Word,
+            4 => AccessWidth::Dword,
+            8 => AccessWidth::Qword,
+            _ => return Err(2),
+        };
+        if !IDENTIFICATION.contains(&offset) {
+            return Ok(width);
+        }
+        match self.controller.read_its(offset, width) {
+            Ok(_) => Err(3),
+            Err(error) => Err(number(&error)),
+        }
+    }
+
+    fn register(&self, offset: u64) -> u64 {
+        self.controller
+            .read_its(offset, AccessWidth::Qword)
+            .expect("a wide register reads at its own offset")
+    }
+
+    /// The commands by which CREADR advanced. A ring never holds as many
+    /// commands as it has places, so the advance modulo the size is the count.
+    /// A CBASER write runs no command; where it is stored it puts CREADR to 0.
+    fn advance(&self, offset: u64, before: u64) -> u64 {
+        if (GITS_CBASER..GITS_CBASER + 8).contains(&offset) {
+            return 0;
+        }
+        let after = self.register(GITS_CREADR);
+        let bytes = if after >= before {
+            after - before
+        } else {
+            after + self.ring_size() - before
+        };
+        bytes / BYTES_OF_A_COMMAND as u64
+    }
+
+    fn ring_size(&self) -> u64 {
+        ((self.register(GITS_CBASER) & 0xff) + 1) << 12
+    }
+
+    /// Number, opcode and offset of the Rust's error. It names no opcode and
+    /// no offset with 8 and no offset with 6: CREADR stands on that command,
+    /// and with 8 it is the last one read.
+    fn refused(&self, written: Written, error: VgicError) -> Written {
+        let (opcode, offset) = match &error {
+            VgicError::InvalidItsCommand { opcode, offset, .. } => (*opcode, *offset),
+            VgicError::ItsCommandBudgetExceeded { offset, .. } => (0, *offset),
+            VgicError::GuestMemory { .. } => (0, self.register(GITS_CREADR)),
+            VgicError::ResourceNotFound { .. } => {
+                let command = written.commands.last().expect("an 8 follows a command");
+                (Fields::of(command).opcode, self.register(GITS_CREADR))
+            }
+            _ => (0, 0),
+        };
+        Written {
+            refusal: number(&error),
+            opcode,
+            offset,
+            error: Some(error),
+            ..written
+        }
+    }
+
+    /// Follows the commands carried out, up to one that needs a record in a
+    /// full table. The Rust went on from there; 01 answers 9 there.
+    fn follow(&mut self, written: Written) -> Written {
+        let refused_after_reading = usize::from(
+            matches!(written.refusal, 7 | 8) && written.commands.len() as u64 != written.done,
+        );
+        assert_eq!(
+            written.commands.len(),
+            written.done as usize + refused_after_reading,
+            "CREADR advances by the commands read and accepted"
+        );
+        for (before, command) in written.commands[..written.done as usize].iter().enumerate() {
+            let fields = Fields::of(command);
+            let Err(table) = self.tables.follow(&fields) else {
+                continue;
+            };
+            let advance = (before * BYTES_OF_A_COMMAND) as u64;
+            return Written {
+                refusal: 9,
+                opcode: fields.opcode,
+                offset: (written.reader + advance) % written.size,
+                done: before as u64,
+                full: Some(table),
+                reader: written.reader,
+                size: written.size,
+                commands: written.commands[..=before].to_vec(),
+                ..Written::default()
+            };
+        }
+        written
+    }
+}
+
+/// 01's number for the Rust's kind of error.
+fn number(error: &VgicError) -> u8 {
+    match error {
+        VgicError::InvalidAccess { .. } => 2,
+        VgicError::InvalidConfig { .. } => 4,
+        VgicError::ItsCommandBudgetExceeded { .. } => 5,
+        VgicError::GuestMemory { .. } => 6,
+        VgicError::InvalidItsCommand { .. } => 7,
+        VgicError::ResourceNotFound { .. } => 8,
+        VgicError::Unsupported { operation, .. } => {
+            unreachable!("no trace reaches a part that is left out: {operation}")
+        }
+    }
+}

@@ -1,0 +1,13 @@
+//! The package's tests, in one program.
+
+mod common;
+mod compare;
+mod constants;
+mod corners;
+mod domain;
+mod example;
+mod linux;
+mod recorded;
+mod room;
+mod tables;
+mod text;

@@ -1,0 +1,34 @@
+//! The fixed list in the repository.
+
+use std::path::Path;
+
+use oracle::answers::answers;
+use oracle::generate::trace_for;
+use oracle::recorded::{check, list};
+
+const HERE: &str = env!("CARGO_MANIFEST_DIR");
+
+#[test]
+fn the_recorded_traces_are_answered_as_recorded() {
+    check(&Path::new(HERE).join("recorded")).expect("every line as recorded");
+}
+
+#[test]
+fn the_list_makes_the_recorded_traces() {
+    let traces = list(&Path::new(HERE).join("traces")).expect("well-formed texts");
+    for (name, trace) in &traces {
+        let path = Path::new(HERE).join("recorded").join(name);
+        let recorded = std::fs::read(path.with_extension("trace"));
+        assert!(recorded.is_ok_and(|recorded| recorded == *trace), "{name}");
+    }
+}
+
+/// Both fit the buffers of the program itstrace.
+#[test]
+fn generated_traces_and_their_answers_fit_the_program() {
+    for seed in 0..800 {
+        let trace = trace_for(seed);
+        assert!(trace.len() <= 32_768, "seed {seed}");
+        assert!(answers(&trace).lines.len() <= 32_768, "seed {seed}");
+    }
+}

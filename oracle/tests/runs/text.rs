@@ -1,0 +1,108 @@
+//! The text form: any bytes come back, and faults name line and reason.
+
+use oracle::digests::seeds;
+use oracle::exhaustive;
+use oracle::generate::trace_for;
+use oracle::text::{assemble, list};
+
+fn fault(text: &str) -> (usize, String) {
+    let fault = assemble(text).expect_err("a faulty text");
+    (fault.line, fault.reason)
+}
+
+#[test]
+fn traces_come_back_from_their_text() {
+    let some = exhaustive::traces().step_by(7);
+    for (name, trace) in seeds(300).chain(some) {
+        let text = list(&trace);
+        assert!(assemble(&text).as_ref() == Ok(&trace), "{name}");
+    }
+}
+
+#[test]
+fn any_bytes_come_back_from_their_text() {
+    let mut bytes = Vec::new();
+    for seed in 0..40u64 {
+        bytes.extend(trace_for(seed).iter().rev().take(97));
+        assert!(
+            assemble(&list(&bytes)).as_ref() == Ok(&bytes),
+            "seed {seed}"
+        );
+        let mut cut = trace_for(seed);
+        cut.truncate(cut.len() - 1 - seed as usize);
+        assert!(assemble(&list(&cut)).as_ref() == Ok(&cut), "seed {seed}");
+    }
+}
+
+#[test]
+fn numbers_names_and_comments_may_be_written_in_several_ways() {
+    let one = "wr cwriter 8 128 # a comment\n\n   rd cbaser+4 4\nrd 0x84 4";
+    let two = "wr 0x88 0x8 0x80\nrd 132 4\n# only a comment\nrd 0x80+4 4\n";
+    assert_eq!(assemble(one), assemble(two));
+    let fields = "gm 0\n mapti lpi=8200 event=9 collection=2 device=5";
+    let ordered = "gm 0x0\n mapti device=5 event=9 lpi=0x2008 collection=2";
+    assert_eq!(assemble(fields), assemble(ordered));
+}
+
+#[test]
+fn what_no_named_form_says_is_listed_as_words() {
+    for words in [
+        "words 0x108 0x0 0x8000000000000000 0x0",
+        "words 0x9 0x0 0x8001000000010002 0x0",
+        "words 0x3 0x100000000 0x0 0x0",
+        "words 0x8 0x20 0x8000000000000000 0x0",
+        "words 0x5 0x0 0x0 0x1",
+        "words 0xe 0x0 0x0 0x0",
+    ] {
+        let trace = assemble(&format!("gm 0x1000\n{words}")).expect("a well-formed text");
+        assert_eq!(list(&trace), format!("gm 0x1000\n  {words}\n"));
+    }
+}
+
+#[test]
+fn faults_name_line_and_reason() {
+    let cases = [
+        ("cf limit=1 budget=1 frame=1", 1, "processors= is missing"),
+        ("\n\nrd nowhere 4", 3, "no register is named `nowhere`"),
+        ("rd ctlr", 1, "rd takes a register and a width"),
+        ("rd ctlr 256", 1, "256 is too large here"),
+        ("tr 5 4294967296", 1, "4294967296 is too large here"),
+        ("wr ctlr 4 1x", 1, "`1x` is not a number of at most 64 bits"),
+        (
+            "# fine\nint device=5 event=9",
+            2,
+            "`int` belongs below a gm line",
+        ),
+        ("gm 0\n int device=5", 2, "event= is missing"),
+        (
+            "gm 0\n int device=5 event=9 lpi=1",
+            2,
+            "int has no field lpi=",
+        ),
+        ("gm 0\n int device=5 device=5", 2, "device= is given twice"),
+        (
+            "gm 0\n mapd device=5 bits=33",
+            2,
+            "bits=33 is not between 1 and 32",
+        ),
+        ("gm 0\n mapd device=5", 2, "bits= is missing"),
+        ("gm 0\n mapc collection=5", 2, "processor= is missing"),
+        (
+            "gm 0\n bytes 123",
+            2,
+            "`123` is not pairs of hexadecimal digits",
+        ),
+        ("gm 0\n words 1 2 3", 2, "words takes four numbers"),
+        (
+            "gm 0\n repeat 129 sync",
+            2,
+            "a window has at most 4096 bytes",
+        ),
+        ("gm 0\n jump 5", 2, "no record or command is named `jump`"),
+        ("cf limit=1 limit=2", 1, "limit= is given twice"),
+        ("raw", 1, "bytes are missing"),
+    ];
+    for (text, line, reason) in cases {
+        assert_eq!(fault(text), (line, reason.to_string()), "{text}");
+    }
+}
