@@ -1,0 +1,13 @@
+-- `tables::device_at` meets its contract: beyond the table stands a free record.
+-- Assumes nothing.
+use borrow.Author.Needs.{needs}
+use Rattle.model.specs.Keys.{noDevice}
+use Rattle.model.proofs.TableLoops.{beyond}
+use Rattle.tables.proofs.device_at.Statement.{statement}
+use Rattle.tables.proofs.device_at.Tie as tie
+
+returns-2 : tie.Need-returns-2
+returns-2 c = beyond (c .before .before .args .t1) noDevice (search needs) (c .before .if1 .left) (c .no-device .ensures)
+
+pub device-at-spec : {M : Type 1} → statement M
+device-at-spec = tie.close (tie.spec (λ c. search needs) (λ c. search needs) (λ c κs. search needs) (λ c. search needs) returns-2)
