@@ -2,7 +2,8 @@
 -- Assumes nothing.
 use mathlib.Core.Path.{_≡_, refl}
 use mathlib.Core.Bool.{true, false}
-use mathlib.Core.List.{List, [], _∷_}
+use mathlib.Core.List.{List, [], _∷_, _++_}
+use lib.ListN.{replicate}
 use mathlib.Core.Option.{none}
 use mathlib.Core.Logic.{_⊎_, inl, inr}
 use Rattle.model.specs.declared.ItsDeviceId.{ItsDeviceId}
@@ -18,6 +19,9 @@ use Rattle.model.specs.Refusal.{writeNumbers}
 use Rattle.model.specs.Step.{check}
 use Rattle.model.specs.History.{partIn, pairNow}
 use Rattle.model.specs.Met.{unitAfter}
+use Rattle.model.specs.Text.{ascii}
+use Rattle.model.specs.Trace.{fitting, outputAfter, returned}
+use Rattle.model.specs.Example.{exampleTrace}
 use Rattle.model.specs.Corners.{withLimit, mapc, exampleMet, given}
 use Rattle.model.proofs.Computed.{shown}
 
@@ -64,3 +68,13 @@ moved-is-ended = refl
 pub discard-ends : pairNow dev ev (Discard dev ev ∷ exampleMet) ≡ none
 unfolding partIn
 discard-ends = refl
+
+-- A full output is judged line by line. Of the example's lines `CF 0` and `GM 0` fit into 22 bytes, the WR line of 13 does not, and nothing after
+-- it is written; the call returns 16 times 10, plus 11, and leaves the other bytes
+pub full-output : (returned exampleTrace (replicate 22 7) ≡ 171) × (outputAfter exampleTrace (replicate 22 7) ≡ ascii "CF 0\nGM 0\n" ++ replicate 12 7)
+unfolding shown exampleTrace returned outputAfter
+full-output = (refl, refl)
+
+-- nor a shorter line after one that does not fit
+pub shorter-line : fitting 4 ((1 ∷ 2 ∷ 3 ∷ 4 ∷ 5 ∷ []) ∷ (6 ∷ []) ∷ []) ≡ []
+shorter-line = refl
