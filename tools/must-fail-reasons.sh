@@ -1,40 +1,57 @@
 #!/bin/sh
 # What refused each must-fail edit, read from the logs of the last `rt ci` or `rt must-fail`.
 #
-# An edit shows something only if a fact fails. So each names the fact that it breaks, in a line `fails: NAME`, and this script fails
+# An edit shows something only if a fact fails. So each wrong text in it names the fact that it breaks, and this script fails
 #   - where the log has no error at that name (of a function that needs no proof file: that rattle's own search does not close it);
 #   - where the edit only made a proof file unfit for the code ("has no `Need-..`").
-# For each edit it prints the first error of its log, and the error at the named fact where that is another one.
+# A line `fails: FACT` names it. An edit that holds a wrong text for each of several functions has a line `fails: FUNCTION FACT` for each
+# (`MODULE/FUNCTION` of a module's), and the error must stand in that function's own proof. For each edit the script prints the first error of its log, and the error at each named fact where
+# that is another one.
 set -u
 cd "$(dirname "$0")/.." || exit 2
 
 bad=0
 count=0
+facts=0
 say_bad() {
     echo "must-fail-reasons: $1: $2"
     bad=$((bad + 1))
 }
 # an error's line without the folder that it was tried in, cut to a readable length
-shown() { sed "s|^.*/target/must-fail/||" | cut -c 1-240; }
+shown() { sed "s|^.*/target/must-fail/||" | cut -c 1-240 | sed 's/^/    /'; }
+# named LOG CRATE FUNCTION FACT: the error at the fact, in that function's proof where one is named
+named() {
+    if [ -n "$3" ]; then
+        grep -F "/proofs/$3/Proof.antt:" "$1" | grep -F -m 1 "error: \`$4\`:" && return
+        grep -F "fn $2::$(printf %s "$3" | sed 's|/|::|g'): " "$1" | grep -F "does not close" | grep -F -m 1 "\`$4\`"
+    else
+        grep -F -m 1 "error: \`$4\`:" "$1" && return
+        grep -F "does not close" "$1" | grep -F -m 1 "\`$4\`"
+    fi
+}
 
+names=$(mktemp) || exit 2
+trap 'rm -f "$names"' EXIT
 for edit in crates/*/must-fail/*.edit; do
     [ -f "$edit" ] || continue
     crate=$(basename "$(dirname "$(dirname "$edit")")")
     label=$(basename "$edit" .edit)
     log=target/must-fail/$crate/$label/.log
-    fact=$(sed -n 's/^fails: //p' "$edit")
     count=$((count + 1))
-    if [ -z "$fact" ]; then say_bad "$crate/$label" "no line 'fails: NAME'"; continue; fi
+    sed -n 's/^fails: //p' "$edit" >"$names"
+    if [ ! -s "$names" ]; then say_bad "$crate/$label" "no line 'fails: ..'"; continue; fi
     if [ ! -f "$log" ]; then say_bad "$crate/$label" "no log: run 'rt must-fail' first"; continue; fi
     first=$(grep -m 1 'error: ' "$log")
-    named=$(grep -F -m 1 "error: \`$fact\`:" "$log")
-    [ -n "$named" ] || named=$(grep -F "does not close" "$log" | grep -F -m 1 "\`$fact\`")
-    [ -n "$first" ] || first=$named
-    echo "$crate/$label breaks $fact"
-    printf '%s\n' "$first" | shown | sed 's/^/    /'
+    echo "$crate/$label"
+    [ -z "$first" ] || printf '%s\n' "$first" | shown
     case $first in *'has no `Need-'*) say_bad "$crate/$label" "refused only because a proof file no longer fits the code" ;; esac
-    if [ -z "$named" ]; then say_bad "$crate/$label" "no error at $fact"
-    elif [ "$named" != "$first" ]; then printf '%s\n' "$named" | shown | sed 's/^/    /'; fi
+    while read -r function fact; do
+        [ -n "$fact" ] || { fact=$function; function=''; }
+        facts=$((facts + 1))
+        error=$(named "$log" "$crate" "$function" "$fact")
+        if [ -z "$error" ]; then say_bad "$crate/$label" "no error at ${function:+$function }$fact"
+        elif [ "$error" != "$first" ]; then printf '%s\n' "$error" | shown; fi
+    done <"$names"
 done
-[ "$bad" -eq 0 ] || { echo "must-fail-reasons: $bad of $count edits show nothing"; exit 1; }
-echo "must-fail-reasons: $count edits, each refused because a stated fact fails"
+[ "$bad" -eq 0 ] || { echo "must-fail-reasons: $bad complaints"; exit 1; }
+echo "must-fail-reasons: $count edits, $facts facts, each of which fails as its edit says"

@@ -1,2 +1,4 @@
+pub mod Among
+pub mod Places
 pub mod Plans
 pub mod Listed

@@ -2,13 +2,13 @@
 -- Assumes nothing.
 use Prim.Native.Nat.{ℕ, zero, suc}
 use native.Mathlib.Omega.{arith}
-use mathlib.Core.Path.{_≡_, refl, sym, _∙_}
-use mathlib.Core.Bool.{Bool, true, false, _&&_, and-false}
+use mathlib.Core.Path.{_≡_, refl, sym}
+use mathlib.Core.Bool.{Bool, _&&_, and-false}
 use mathlib.Core.List.{List, [], _∷_}
 use lib.ListN.{length, take}
 use lib.Dec.{ltb, leb·suc-zero, leb·suc-suc}
 use borrow.Author.Tests.{lt-ltb}
-use Rattle.model.specs.Choose.{if_then_else_, isFound}
+use Rattle.model.specs.Choose.{isFound}
 use Rattle.model.specs.Table.{firstAt, look}
 use Rattle.model.proofs.Cases.{cases}
 

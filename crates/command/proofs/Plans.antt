@@ -1,12 +1,13 @@
 -- What a command's plan comes to, and what it does to the unit, is what the model's Step.antt says of the command: its checks in order, then its
 -- effect.
 -- Assumes nothing.
-use Prim.Native.Nat.{ℕ, zero, suc, _≤_}
+use Prim.Native.Nat.{ℕ, zero, suc, _+_, _≤_}
+use native.Mathlib.Numerals.{add-one}
 use native.Mathlib.Omega.{arith}
 use mathlib.Core.Path.{_≡_, refl, sym, ap, _∙_}
 use mathlib.Core.Bool.{Bool, true, false}
 use mathlib.Core.List.{List, [], _∷_}
-use mathlib.Core.Option.{Option, none, some}
+use mathlib.Core.Option.{none, some}
 use lib.ListN.{length, getD, set}
 use lib.Dec.{ltb}
 use Rattle.model.specs.declared.ItsDeviceId.{ItsDeviceId}
@@ -14,21 +15,24 @@ use Rattle.model.specs.declared.EventId.{EventId}
 use Rattle.model.specs.declared.CollectionId.{CollectionId}
 use Rattle.model.specs.declared.LpiId.{LpiId}
 use Rattle.model.specs.declared.GicVcpuId.{GicVcpuId}
-use Rattle.model.specs.declared.Translation.{Translation}
 use Rattle.model.specs.declared.ItsState.{ItsState}
 use Rattle.model.specs.declared.Command.{Command}
 use Rattle.model.specs.declared.Command.the-variants.{Mapd, Mapc, Mapti, Mapi, Movi, Int, Clear, Discard, Inv, Invall, Sync}
 use Rattle.model.specs.declared.Refusal.the-variants.{ResourceNotFound}
+use Rattle.model.specs.declared.Executed.the-variants.{NotDone, Done, Acted}
 use Rattle.model.specs.declared.Verdict.the-variants.{Accepted, Refused}
-use Rattle.model.specs.Choose.{if_then_else_, _or_then_, whenFound, ifFound, isFound}
-use Rattle.model.specs.Table.{look, place, placeOf, room, store}
+use Rattle.model.specs.Choose.{if_then_else_, _or_then_, isFound}
+use Rattle.model.specs.Table.{firstAt, place, room, store, dropAll}
 use Rattle.model.specs.Keys.{isDevice, isCollection, isPair, noDevice, noCollection, noTranslation, eventAsLpi}
 use Rattle.model.specs.Config.{listed}
-use Rattle.model.specs.Step.{deviceOf, collectionOf, translationOf, deliveryIn, lpiInRange, eventBelow, deviceMapped, eventFits, collectionMapped, pairMapped, pairTranslates, checkMapping, check, storeDevice, storeCollection, storeTranslation, movePair, actionsOn, isAccepted, stepped, executedBy, executed}
+use Rattle.model.specs.Step.{deviceOf, collectionOf, translationOf, deliveryIn, lpiInRange, eventBelow, deviceMapped, collectionMapped, pairMapped, pairTranslates, checkMapping, storeDevice, storeCollection, storeTranslation, movePair, withTranslations, dropPair, actionsOn, isAccepted, stepped, executedBy, executed}
 use Rattle.model.proofs.Cases.{cases, never}
+use Rattle.model.proofs.TableLaws.{set-beyond}
 use Rattle.model.proofs.TableLoops.{found-look, missing-look}
 use Rattle.command.specs.declared.Plan.{Plan}
-use Rattle.command.specs.Plan.{deviceAt, collectionAt, pairAt, seenPair, seenFor, planMapd, planMapc, planMapping, planMovi, planAction, planDiscard, planInv, planInvall, planWith, appliedTo, comesTo}
+use Rattle.command.specs.declared.Sought.{Sought}
+use Rattle.command.specs.declared.Plan.the-variants.{Refuse, Keep, Act, StoreDevice, DropDevice, StoreCollection, DropCollection, StoreTranslation, DropPair}
+use Rattle.command.specs.Plan.{deviceAt, collectionAt, pairAt, seenPair, seenFor, aPair, soughtBy, isSought, dropOn, planMapd, planMapc, planMapping, planMovi, planAction, planDiscard, planInv, planInvall, planWith, appliedTo, comesTo, changeOf, storedIn, droppedBy}
 
 -- The tables have their sizes.
 pub record Sized (u : ItsState) : Type 0 where
@@ -42,13 +46,128 @@ planFor u x = planWith (u .config) (u .devices) (u .collections) (seenFor (u .tr
 
 -- What the plan says and does.
 abbrev Right : ItsState → Command → Type 0
-Right u x = (appliedTo u (planFor u x) ≡ stepped u x) × (comesTo (planFor u x) ≡ executed u x)
+Right u x = (appliedTo u (soughtBy x) (planFor u x) ≡ stepped u x) × (comesTo (planFor u x) ≡ executed u x)
 
--- a store beyond a table changes nothing
-pub set-beyond : {A : Type 0} (l : List A) (i : ℕ) (a : A) → length l ≤ i → set l i a ≡ l
-set-beyond [] i a h = refl
-set-beyond (x ∷ l) zero a h = absurd (omega arith)
-set-beyond (x ∷ l) (suc i) a h = ap (λ r. x ∷ r) (set-beyond l i a (omega arith))
+-- A drop from the record i on, a record at a time; from the first record that passes, it is the drop of all.
+module _ {A : Type 0} (p : A → Bool) (empty d : A) where
+  drop-all : (rs : List A) → dropOn zero p empty rs ≡ dropAll p empty rs
+  drop-all [] = refl
+  drop-all (r ∷ rs) = ap (λ l. (if p r then empty else r) ∷ l) (drop-all rs)
+
+  pub drop-hit : (i : ℕ) (rs : List A) → p (getD rs i d) ≡ true → dropOn (i + 1) p empty (set rs i empty) ≡ dropOn i p empty rs
+  drop-hit i rs h = rw (add-one i) (on i rs h)
+    where
+      on : (i : ℕ) (rs : List A) → p (getD rs i d) ≡ true → dropOn (suc i) p empty (set rs i empty) ≡ dropOn i p empty rs
+      on zero [] h = refl
+      on (suc i) [] h = refl
+      on zero (r ∷ rs) h = rw h
+      on (suc i) (r ∷ rs) h = ap (λ l. r ∷ l) (on i rs h)
+
+  pub drop-miss : (i : ℕ) (rs : List A) → p (getD rs i d) ≡ false → dropOn (i + 1) p empty rs ≡ dropOn i p empty rs
+  drop-miss i rs h = rw (add-one i) (on i rs h)
+    where
+      on : (i : ℕ) (rs : List A) → p (getD rs i d) ≡ false → dropOn (suc i) p empty rs ≡ dropOn i p empty rs
+      on zero [] h = refl
+      on (suc i) [] h = refl
+      on zero (r ∷ rs) h = rw h
+      on (suc i) (r ∷ rs) h = ap (λ l. r ∷ l) (on i rs h)
+
+  pub drop-over : (i : ℕ) (rs : List A) → length rs ≤ i → dropOn i p empty rs ≡ rs
+  drop-over i [] h = refl
+  drop-over zero (r ∷ rs) h = absurd (omega arith)
+  drop-over (suc i) (r ∷ rs) h = ap (λ l. r ∷ l) (drop-over i rs (omega arith))
+
+drop-first : {A : Type 0} (p : A → Bool) (empty : A) (rs : List A) → dropOn (firstAt p rs) p empty rs ≡ dropAll p empty rs
+drop-first p empty [] = refl
+drop-first p empty (r ∷ rs) =
+    cases (p r)
+    (λ e. let z : firstAt p (r ∷ rs) ≡ 0 = rw e in ap (λ i. dropOn i p empty (r ∷ rs)) z ∙ drop-all p empty empty (r ∷ rs))
+    (λ e. let z : firstAt p (r ∷ rs) ≡ suc (firstAt p rs) = rw e in
+    let k : r ≡ (if p r then empty else r) = rw e in
+    ap (λ i. dropOn i p empty (r ∷ rs)) z ∙ (ap (λ l. r ∷ l) (drop-first p empty rs) ∙ ap (λ a. a ∷ dropAll p empty rs) k))
+
+-- What the owner of the unit does about a plan.
+pub refusing : (p : Plan) → changeOf p .refuses ≡ true → comesTo p ≡ NotDone (changeOf p .why)
+refusing (Refuse r) h = refl
+refusing Keep h = never true refl (sym h)
+refusing (Act a) h = never true refl (sym h)
+refusing (StoreDevice i r) h = never true refl (sym h)
+refusing (DropDevice d) h = never true refl (sym h)
+refusing (StoreCollection i r) h = never true refl (sym h)
+refusing (DropCollection c) h = never true refl (sym h)
+refusing (StoreTranslation i r) h = never true refl (sym h)
+refusing DropPair h = never true refl (sym h)
+
+pub acting : (p : Plan) → changeOf p .acts ≡ true → comesTo p ≡ Acted (changeOf p .action)
+acting (Refuse r) h = never true refl (sym h)
+acting Keep h = never true refl (sym h)
+acting (Act a) h = refl
+acting (StoreDevice i r) h = never true refl (sym h)
+acting (DropDevice d) h = never true refl (sym h)
+acting (StoreCollection i r) h = never true refl (sym h)
+acting (DropCollection c) h = never true refl (sym h)
+acting (StoreTranslation i r) h = never true refl (sym h)
+acting DropPair h = never true refl (sym h)
+
+pub silent : (p : Plan) → changeOf p .refuses ≡ false → changeOf p .acts ≡ false → comesTo p ≡ Done
+silent (Refuse r) h k = never true refl h
+silent Keep h k = refl
+silent (Act a) h k = never true refl k
+silent (StoreDevice i r) h k = refl
+silent (DropDevice d) h k = refl
+silent (StoreCollection i r) h k = refl
+silent (DropCollection c) h k = refl
+silent (StoreTranslation i r) h k = refl
+silent DropPair h k = refl
+
+module _ (u : ItsState) (sized : Sized u) where
+  -- a place beyond a table stores nothing
+  beyond-devices : set (u .devices) 32 noDevice ≡ u .devices
+  beyond-devices = set-beyond (u .devices) 32 noDevice (omega (arith, sized .devices))
+
+  beyond-collections : set (u .collections) 32 noCollection ≡ u .collections
+  beyond-collections = set-beyond (u .collections) 32 noCollection (omega (arith, sized .collections))
+
+  beyond-pairs : set (u .translations) 256 noTranslation ≡ u .translations
+  beyond-pairs = set-beyond (u .translations) 256 noTranslation (omega (arith, sized .translations))
+
+  -- the stores, then the drop of a device or of a collection
+  pub stored-dropped : (p : Plan) (q : Sought) → changeOf p .discards ≡ false → droppedBy (storedIn u (changeOf p)) p ≡ appliedTo u q p
+  stored-dropped (Refuse r) q h = rw (beyond-devices, beyond-collections, beyond-pairs)
+  stored-dropped Keep q h = rw (beyond-devices, beyond-collections, beyond-pairs)
+  stored-dropped (Act a) q h = rw (beyond-devices, beyond-collections, beyond-pairs)
+  stored-dropped (StoreDevice i r) q h = rw (beyond-collections, beyond-pairs)
+  stored-dropped (DropDevice d) q h = rw (beyond-devices, beyond-collections, beyond-pairs)
+  stored-dropped (StoreCollection i r) q h = rw (beyond-devices, beyond-pairs)
+  stored-dropped (DropCollection c) q h = rw (beyond-devices, beyond-collections, beyond-pairs)
+  stored-dropped (StoreTranslation i r) q h = rw (beyond-devices, beyond-collections)
+  stored-dropped DropPair q h = never true refl h
+
+  -- then the drop of the pair, from the first of its records on
+  pub discarded : (p : Plan) (q : Sought) → changeOf p .discards ≡ true →
+      (droppedBy (storedIn u (changeOf p)) p ≡ u) × (withTranslations u (dropOn (firstAt (isSought q) (u .translations)) (isSought q) noTranslation (u .translations)) ≡ appliedTo u q p)
+  discarded (Refuse r) q h = never true refl (sym h)
+  discarded Keep q h = never true refl (sym h)
+  discarded (Act a) q h = never true refl (sym h)
+  discarded (StoreDevice i r) q h = never true refl (sym h)
+  discarded (DropDevice d) q h = never true refl (sym h)
+  discarded (StoreCollection i r) q h = never true refl (sym h)
+  discarded (DropCollection c) q h = never true refl (sym h)
+  discarded (StoreTranslation i r) q h = never true refl (sym h)
+  discarded DropPair q h =
+      (rw (beyond-devices, beyond-collections, beyond-pairs), rw (drop-first (isSought q) noTranslation (u .translations)))
+
+-- where it drops nothing, a drop is none
+pub no-drop : (v : ItsState) (p : Plan) → changeOf p .drops ≡ false → v ≡ droppedBy v p
+no-drop v (Refuse r) h = refl
+no-drop v Keep h = refl
+no-drop v (Act a) h = refl
+no-drop v (StoreDevice i r) h = refl
+no-drop v (DropDevice d) h = never true refl h
+no-drop v (StoreCollection i r) h = refl
+no-drop v (DropCollection c) h = never true refl h
+no-drop v (StoreTranslation i r) h = refl
+no-drop v DropPair h = refl
 
 -- a command that changes nothing leaves the unit, accepted or not
 either : (b : Bool) (u : ItsState) → (if isAccepted (b or Refused ResourceNotFound then Accepted) then u else u) ≡ u
@@ -89,7 +208,7 @@ module _ (u : ItsState) (sized : Sized u) where
       (λ l. rw l (refl, refl)))
 
   discard : (d : ItsDeviceId) (e : EventId) → Right u (Discard d e)
-  unfolding planDiscard seenPair stepped executed
+  unfolding planDiscard seenPair stepped executed dropPair
   discard d e = cases (pairMapped u d e) (λ m. rw m (refl, refl)) (λ m. rw m (refl, refl))
 
   inv : (d : ItsDeviceId) (e : EventId) → Right u (Inv d e)
@@ -102,7 +221,7 @@ module _ (u : ItsState) (sized : Sized u) where
 
   -- MAPTI and MAPI
   mapping : (d : ItsDeviceId) (e : EventId) (l : LpiId) (c : CollectionId) →
-      (appliedTo u (planMapping (u .config) (u .devices) (u .collections) (seenPair (u .translations) d e) d e l c)
+      (appliedTo u (aPair d e) (planMapping (u .config) (u .devices) (u .collections) (seenPair (u .translations) d e) d e l c)
       ≡ (if isAccepted (checkMapping u d e l c) then storeTranslation d e l c u else u))
       × (comesTo (planMapping (u .config) (u .devices) (u .collections) (seenPair (u .translations) d e) d e l c) ≡ executedBy (checkMapping u d e l c) [])
   unfolding planMapping seenPair checkMapping room store storeTranslation
@@ -130,7 +249,7 @@ module _ (u : ItsState) (sized : Sized u) where
 
   -- INT and CLEAR
   action : (pending : Bool) (d : ItsDeviceId) (e : EventId) →
-      (appliedTo u (planAction (u .collections) (seenPair (u .translations) d e) pending) ≡ u)
+      (appliedTo u (aPair d e) (planAction (u .collections) (seenPair (u .translations) d e) pending) ≡ u)
       × (comesTo (planAction (u .collections) (seenPair (u .translations) d e) pending)
       ≡ executedBy (isFound (deliveryIn u d e) or Refused ResourceNotFound then Accepted) (actionsOn pending u d e))
   unfolding planAction seenPair deliveryIn actionsOn

@@ -1,10 +1,9 @@
-// Commands: decoded, checked, carried out. First a plan of what is to be stored, then the one owner of the unit stores it.
-use model::Applied;
+// Commands: decoded, and planned. A plan says what is to be stored, dropped or handed over; the one owner of the unit, the run of the queue,
+// does it, so that the unit is not handed from call to call.
 use model::CollectionId;
 use model::Command;
 use model::Decoded;
 use model::EventId;
-use model::Executed;
 use model::GicVcpuId;
 use model::ItsAction;
 use model::ItsCollection;
@@ -18,11 +17,15 @@ use model::Refusal;
 use model::Translation;
 ghost use mathlib.Core.Path.{_≡_};
 ghost use Rattle.model.specs.Table.{firstAt};
-ghost use Rattle.model.specs.Keys.{sameProcessor};
+ghost use Rattle.model.specs.Keys.{sameProcessor, isPair};
+ghost use Rattle.model.specs.Choose.{if_then_else_};
+ghost use lib.Dec.{ltb};
+ghost use mathlib.Core.Bool.{not};
+ghost use mathlib.Core.List.{[], _∷_};
 ghost use Rattle.model.specs.Config.{listed};
 ghost use Rattle.model.specs.Decode.{decode as decodeOf};
-ghost use Rattle.model.specs.Step.{lpiInRange, eventBelow, dropDevice, dropCollection, dropPair, stepped, executed};
-ghost use Rattle.command.specs.Plan.{seenPair, nothingSeen, seenFor, planMapd, planMapc, planMapping, planMovi, planAction, planDiscard, planInv, planInvall, planWith, appliedTo, comesTo};
+ghost use Rattle.model.specs.Step.{lpiInRange, eventBelow, dropDevice, dropCollection};
+ghost use Rattle.command.specs.Plan.{noPair, aPair, soughtBy, planMapd, planMapc, planMapping, planMovi, planAction, planDiscard, planInv, planInvall, planWith, changeOf, dropping, droppedBy};
 
 // One of the kinds of commands, or unknown.
 pub fn decode(words: [u64; 4]) -> Decoded
@@ -97,7 +100,7 @@ pub enum Plan {
     StoreCollection(usize, ItsCollection),
     DropCollection(CollectionId),
     StoreTranslation(usize, Translation),
-    DropPair(ItsDeviceId, EventId),
+    DropPair,
 }
 
 // What the one search of the translations found: the place of the command's pair, and what stands there.
@@ -106,66 +109,148 @@ pub struct Seen {
     pub entry: Translation,
 }
 
-fn seen_pair(translations: [Translation; 256], device: ItsDeviceId, event: EventId) -> Seen
-    ensures { λ r. ⌜ r ≡ seenPair translations device event ⌝ }
+// The pair that a command names, and the four records with which the search for it begins, of 64 times four: a command that names no pair
+// searches none of them.
+pub struct Sought {
+    pub device: ItsDeviceId,
+    pub event: EventId,
+    pub from: usize,
+}
+
+fn no_pair() -> Sought
+    ensures { λ r. ⌜ r ≡ noPair ⌝ }
 {
-    let place = tables::place_of_pair(translations, device, event);
-    let entry = tables::translation_at(translations, place.at);
-    Seen {
-        place: place,
-        entry: entry,
+    Sought {
+        device: ItsDeviceId(0),
+        event: EventId(0),
+        from: 64,
     }
 }
 
-fn nothing_seen() -> Seen
-    ensures { λ r. ⌜ r ≡ nothingSeen ⌝ }
+fn pair(device: ItsDeviceId, event: EventId) -> Sought
+    ensures { λ r. ⌜ r ≡ aPair device event ⌝ }
 {
-    let entry = tables::no_translation();
-    Seen {
-        place: Place {
-            at: 256,
-            found: false,
-        },
-        entry: entry,
+    let d = device;
+    let e = event;
+    Sought {
+        device: d,
+        event: e,
+        from: 0,
     }
 }
 
-fn look_for(translations: [Translation; 256], x: Command) -> Seen
-    ensures { λ r. ⌜ r ≡ seenFor translations x ⌝ }
+pub fn pair_sought(x: Command) -> Sought
+    ensures { λ r. ⌜ r ≡ soughtBy x ⌝ }
 {
     match x {
         Command::Mapd {
             device: _,
             event_bits: _,
             valid: _,
-        } => nothing_seen(),
+        } => no_pair(),
         Command::Mapc {
             collection: _,
             target: _,
             valid: _,
-        } => nothing_seen(),
+        } => no_pair(),
         Command::Mapti {
             device,
             event,
             lpi: _,
             collection: _,
-        } => seen_pair(translations, device, event),
+        } => pair(device, event),
         Command::Mapi {
             device,
             event,
             collection: _,
-        } => seen_pair(translations, device, event),
+        } => pair(device, event),
         Command::Movi {
             device,
             event,
             collection: _,
-        } => seen_pair(translations, device, event),
-        Command::Int { device, event } => seen_pair(translations, device, event),
-        Command::Clear { device, event } => seen_pair(translations, device, event),
-        Command::Discard { device, event } => seen_pair(translations, device, event),
-        Command::Inv { device, event } => seen_pair(translations, device, event),
-        Command::Invall { collection: _ } => nothing_seen(),
-        Command::Sync => nothing_seen(),
+        } => pair(device, event),
+        Command::Int { device, event } => pair(device, event),
+        Command::Clear { device, event } => pair(device, event),
+        Command::Discard { device, event } => pair(device, event),
+        Command::Inv { device, event } => pair(device, event),
+        Command::Invall { collection: _ } => no_pair(),
+        Command::Sync => no_pair(),
+    }
+}
+
+// Of four records, the first that is the pair's, and the first that is free; 4 where there is none. Most often no event is the pair's, which
+// is asked first.
+pub fn pair_among(
+    a: Translation,
+    b: Translation,
+    c: Translation,
+    d: Translation,
+    device: ItsDeviceId,
+    event: EventId,
+) -> usize
+    ensures { λ r. ⌜ r ≡ firstAt (isPair device event) (a ∷ b ∷ c ∷ d ∷ []) ⌝ }
+{
+    let e = event.0;
+    if ((a.event.0 != e) & (b.event.0 != e)) & ((c.event.0 != e) & (d.event.0 != e)) {
+        return 4;
+    }
+    if tables::is_pair(a, device, event) {
+        return 0;
+    }
+    if tables::is_pair(b, device, event) {
+        return 1;
+    }
+    if tables::is_pair(c, device, event) {
+        return 2;
+    }
+    if tables::is_pair(d, device, event) {
+        return 3;
+    }
+    4
+}
+
+pub fn free_among(a: Translation, b: Translation, c: Translation, d: Translation) -> usize
+    ensures { λ r. ⌜ r ≡ firstAt (λ t. not (t .used)) (a ∷ b ∷ c ∷ d ∷ []) ⌝ }
+{
+    if (a.used & b.used) & (c.used & d.used) {
+        return 4;
+    }
+    if !a.used {
+        return 0;
+    }
+    if !b.used {
+        return 1;
+    }
+    if !c.used {
+        return 2;
+    }
+    if !d.used {
+        return 3;
+    }
+    4
+}
+
+// The search for a free record begins where the pair was not found.
+pub fn free_from(held: usize, from: usize) -> usize
+    ensures { λ r. ⌜ r ≡ (if ltb held 256 then 64 else from) ⌝ }
+{
+    if held < 256 { 64 } else { from }
+}
+
+// The pair's own record, or the free one.
+pub fn place_seen(held: usize, free: usize) -> Place
+    ensures { λ r. ⌜ r ≡ record { at = if ltb held 256 then held else free; found = ltb held 256 } ⌝ }
+{
+    if held < 256 {
+        Place {
+            at: held,
+            found: true,
+        }
+    } else {
+        Place {
+            at: free,
+            found: false,
+        }
     }
 }
 
@@ -365,14 +450,14 @@ fn plan_action(collections: [ItsCollection; 32], s: Seen, pending: bool) -> Plan
     })
 }
 
-fn plan_discard(s: Seen, device: ItsDeviceId, event: EventId) -> Plan
-    ensures { λ r. ⌜ r ≡ planDiscard s device event ⌝ }
+fn plan_discard(s: Seen) -> Plan
+    ensures { λ r. ⌜ r ≡ planDiscard s ⌝ }
 {
     let place = s.place;
     if !place.found {
         return Plan::Refuse(Refusal::PairUnmapped);
     }
-    Plan::DropPair(device, event)
+    Plan::DropPair
 }
 
 fn plan_invalidate(s: Seen) -> Plan
@@ -395,7 +480,7 @@ fn plan_invalidate_all(collections: [ItsCollection; 32], collection: CollectionI
     Plan::Keep
 }
 
-fn plan_command(
+pub fn plan_command(
     config: ItsConfig,
     devices: [ItsDevice; 32],
     collections: [ItsCollection; 32],
@@ -457,7 +542,10 @@ fn plan_command(
             device: _,
             event: _,
         } => plan_action(collections, s, false),
-        Command::Discard { device, event } => plan_discard(s, device, event),
+        Command::Discard {
+            device: _,
+            event: _,
+        } => plan_discard(s),
         Command::Inv {
             device: _,
             event: _,
@@ -467,35 +555,146 @@ fn plan_command(
     }
 }
 
-// The one owner of the unit stores what the plan says.
-fn store_device(unit: ItsState, at: usize, r: ItsDevice) -> ItsState
-    ensures { λ v. ⌜ v ≡ appliedTo unit (Plan.StoreDevice at r) ⌝ }
-{
-    let mut u = unit;
-    if at < 32 {
-        u.devices[at] = r;
-    }
-    u
+// What the owner of the unit does about a plan: whether it refuses, and why; whether it hands over an action, and which; whether it drops a
+// device or a collection, or the pair; and the record that it stores in each table, with its place, which is beyond the table where nothing
+// is stored.
+pub struct Change {
+    pub refuses: bool,
+    pub why: Refusal,
+    pub acts: bool,
+    pub action: ItsAction,
+    pub drops: bool,
+    pub discards: bool,
+    pub device_at: usize,
+    pub device: ItsDevice,
+    pub collection_at: usize,
+    pub collection: ItsCollection,
+    pub pair_at: usize,
+    pub pair: Translation,
 }
 
-fn store_collection(unit: ItsState, at: usize, r: ItsCollection) -> ItsState
-    ensures { λ v. ⌜ v ≡ appliedTo unit (Plan.StoreCollection at r) ⌝ }
+fn no_change() -> Change
+    ensures { λ r. ⌜ r ≡ changeOf Plan.Keep ⌝ }
 {
-    let mut u = unit;
-    if at < 32 {
-        u.collections[at] = r;
+    let device = tables::no_device();
+    let collection = tables::no_collection();
+    let pair = tables::no_translation();
+    let action = ItsAction {
+        target: GicVcpuId(0),
+        lpi: LpiId(0),
+        pending: false,
+    };
+    Change {
+        refuses: false,
+        why: Refusal::TableFull,
+        acts: false,
+        action: action,
+        drops: false,
+        discards: false,
+        device_at: 32,
+        device: device,
+        collection_at: 32,
+        collection: collection,
+        pair_at: 256,
+        pair: pair,
     }
-    u
 }
 
-fn store_translation(unit: ItsState, at: usize, r: Translation) -> ItsState
-    ensures { λ v. ⌜ v ≡ appliedTo unit (Plan.StoreTranslation at r) ⌝ }
+fn change_refuses(why: Refusal) -> Change
+    ensures { λ r. ⌜ r ≡ changeOf (Plan.Refuse why) ⌝ }
 {
-    let mut u = unit;
-    if at < 256 {
-        u.translations[at] = r;
+    let w = why;
+    let c = no_change();
+    let action = c.action;
+    let device = c.device;
+    let collection = c.collection;
+    let pair = c.pair;
+    Change {
+        refuses: true,
+        why: w,
+        acts: false,
+        action: action,
+        drops: false,
+        discards: false,
+        device_at: 32,
+        device: device,
+        collection_at: 32,
+        collection: collection,
+        pair_at: 256,
+        pair: pair,
     }
-    u
+}
+
+fn change_acts(action: ItsAction) -> Change
+    ensures { λ r. ⌜ r ≡ changeOf (Plan.Act action) ⌝ }
+{
+    let a = action;
+    let mut c = no_change();
+    c.acts = true;
+    c.action = a;
+    c
+}
+
+fn change_drops() -> Change
+    ensures { λ r. ⌜ r ≡ dropping ⌝ }
+{
+    let mut c = no_change();
+    c.drops = true;
+    c
+}
+
+fn change_discards() -> Change
+    ensures { λ r. ⌜ r ≡ changeOf Plan.DropPair ⌝ }
+{
+    let mut c = no_change();
+    c.discards = true;
+    c
+}
+
+fn change_device(at: usize, device: ItsDevice) -> Change
+    ensures { λ r. ⌜ r ≡ changeOf (Plan.StoreDevice at device) ⌝ }
+{
+    let d = device;
+    let mut c = no_change();
+    c.device_at = at;
+    c.device = d;
+    c
+}
+
+fn change_collection(at: usize, collection: ItsCollection) -> Change
+    ensures { λ r. ⌜ r ≡ changeOf (Plan.StoreCollection at collection) ⌝ }
+{
+    let k = collection;
+    let mut c = no_change();
+    c.collection_at = at;
+    c.collection = k;
+    c
+}
+
+fn change_pair(at: usize, pair: Translation) -> Change
+    ensures { λ r. ⌜ r ≡ changeOf (Plan.StoreTranslation at pair) ⌝ }
+{
+    let t = pair;
+    let mut c = no_change();
+    c.pair_at = at;
+    c.pair = t;
+    c
+}
+
+pub fn change_of(p: Plan) -> Change
+    ensures { λ r. ⌜ r ≡ changeOf p ⌝ }
+{
+    match p {
+        Plan::Refuse(r) => change_refuses(r),
+        Plan::Keep => no_change(),
+        Plan::Act(a) => change_acts(a),
+        Plan::StoreDevice(at, r) => change_device(at, r),
+        Plan::DropDevice(_) => change_drops(),
+        Plan::StoreCollection(at, r) => change_collection(at, r),
+        Plan::DropCollection(_) => change_drops(),
+        Plan::StoreTranslation(at, r) => change_pair(at, r),
+        Plan::DropPair => change_discards(),
+    }
 }
 
 fn drop_device(unit: ItsState, device: ItsDeviceId) -> ItsState
@@ -524,62 +723,26 @@ fn drop_collection(unit: ItsState, collection: CollectionId) -> ItsState
     u
 }
 
-fn drop_pair(unit: ItsState, device: ItsDeviceId, event: EventId) -> ItsState
-    ensures { λ v. ⌜ v ≡ dropPair device event unit ⌝ }
+// Where the owner of the unit begins to drop the pair: at the first of its records.
+pub fn discard_from(discards: bool, held: usize) -> usize
+    ensures { λ r. ⌜ r ≡ (if discards then held else 256) ⌝ }
 {
-    let mut u = unit;
-    let pairs = u.translations;
-    let ts = tables::drop_pairs(pairs, device, event);
-    u.translations = ts;
-    u
+    if discards { held } else { 256 }
 }
 
-fn apply(unit: ItsState, p: Plan) -> ItsState
-    ensures { λ v. ⌜ v ≡ appliedTo unit p ⌝ }
+// The drop of a device or of a collection, with its pairs.
+pub fn drop_planned(unit: ItsState, p: Plan) -> ItsState
+    ensures { λ v. ⌜ v ≡ droppedBy unit p ⌝ }
 {
     match p {
         Plan::Refuse(_) => unit,
         Plan::Keep => unit,
         Plan::Act(_) => unit,
-        Plan::StoreDevice(at, r) => store_device(unit, at, r),
+        Plan::StoreDevice(_, _) => unit,
         Plan::DropDevice(device) => drop_device(unit, device),
-        Plan::StoreCollection(at, r) => store_collection(unit, at, r),
+        Plan::StoreCollection(_, _) => unit,
         Plan::DropCollection(collection) => drop_collection(unit, collection),
-        Plan::StoreTranslation(at, r) => store_translation(unit, at, r),
-        Plan::DropPair(device, event) => drop_pair(unit, device, event),
-    }
-}
-
-fn come_to(p: Plan) -> Executed
-    ensures { λ r. ⌜ r ≡ comesTo p ⌝ }
-{
-    match p {
-        Plan::Refuse(r) => Executed::NotDone(r),
-        Plan::Keep => Executed::Done,
-        Plan::Act(a) => Executed::Acted(a),
-        Plan::StoreDevice(_, _) => Executed::Done,
-        Plan::DropDevice(_) => Executed::Done,
-        Plan::StoreCollection(_, _) => Executed::Done,
-        Plan::DropCollection(_) => Executed::Done,
-        Plan::StoreTranslation(_, _) => Executed::Done,
-        Plan::DropPair(_, _) => Executed::Done,
-    }
-}
-
-// One command: its checks in order, then its effect. A command that is refused changes nothing.
-pub fn execute(unit: ItsState, x: Command) -> Applied
-    ensures { λ r. ⌜ (r .unit ≡ stepped unit x) × (r .executed ≡ executed unit x) ⌝ }
-{
-    let ts = unit.translations;
-    let s = look_for(ts, x);
-    let k = unit.config;
-    let ds = unit.devices;
-    let cs = unit.collections;
-    let p = plan_command(k, ds, cs, s, x);
-    let u = apply(unit, p);
-    let e = come_to(p);
-    Applied {
-        unit: u,
-        executed: e,
+        Plan::StoreTranslation(_, _) => unit,
+        Plan::DropPair => unit,
     }
 }

@@ -59,6 +59,12 @@ module _ {A : Type 0} where
 
   -- One record is replaced.
 
+  -- beyond the table nothing is
+  pub set-beyond : (rs : List A) (i : ℕ) (a : A) → length rs ≤ i → set rs i a ≡ rs
+  set-beyond [] i a h = refl
+  set-beyond (r ∷ rs) zero a h = absurd (omega arith)
+  set-beyond (r ∷ rs) (suc i) a h = ap (λ l. r ∷ l) (set-beyond rs i a (omega arith))
+
   -- a record that passes, at no later place than the first that did, is what is found
   pub look-set-here : (p : A → Bool) (rs : List A) (j : ℕ) (a : A) → j < length rs → j ≤ firstAt p rs → p a ≡ true → look p (set rs j a) ≡ some a
   look-set-here p [] j a h l t = absurd (omega arith)

@@ -217,11 +217,6 @@ pub enum TranslateAnswer {
 }
 
 // An answer that comes with a unit stands beside it.
-pub struct Applied {
-    pub unit: ItsState,
-    pub executed: Executed,
-}
-
 pub struct Configured {
     pub unit: ItsState,
     pub verdict: Verdict,

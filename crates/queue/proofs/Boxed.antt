@@ -31,7 +31,7 @@ use Rattle.queue.proofs.Processed as E
 use Rattle.queue.proofs.Processed.Laws as E′
 
 -- a struct's name, and its fields without the first k
-abbrev name-of : Ty → Sym
+abbrev pub name-of : Ty → Sym
 name-of (tyInt w) = []
 name-of tyBool = []
 name-of (tyFloat f) = []
@@ -43,12 +43,12 @@ name-of (tyStruct ν τs) = ν
 name-of (tyEnum ν τss) = []
 name-of (tyNamed ν) = []
 
-abbrev without : ℕ → Tys → Tys
+abbrev pub without : ℕ → Tys → Tys
 without zero τs = τs
 without (suc k) tnil = tnil
 without (suc k) (tcons τ τs) = without k τs
 
-abbrev fields-of : Ty → Tys
+abbrev pub fields-of : Ty → Tys
 fields-of (tyInt w) = tnil
 fields-of tyBool = tnil
 fields-of (tyFloat f) = tnil
@@ -79,7 +79,7 @@ unfoldable pub τE : Ty
 abbrev pub rv : ItsAction → Val
 rv = LL.val R.the-type R′.the-laws
 
-abbrev later-fields : ℕ → Vals → Vals
+abbrev pub later-fields : ℕ → Vals → Vals
 later-fields zero vs = vs
 later-fields (suc k) vnil = vnil
 later-fields (suc k) (vcons v vs) = later-fields k vs
@@ -87,7 +87,7 @@ later-fields (suc k) (vcons v vs) = later-fields k vs
 unfoldable pub vS : ItsState → Val
 vS = LL.val S.the-type S′.the-laws
 
-abbrev values-of : Val → Vals
+abbrev pub values-of : Val → Vals
 values-of vunit = vnil
 values-of (vbool b) = vnil
 values-of (vint w n) = vnil

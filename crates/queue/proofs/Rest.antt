@@ -45,7 +45,7 @@ pub record Ok (k : ℕ) (t : Progress) : Type 0 where
   pub stands : Stands (t .unit)
 
 module _ {k : ℕ} {t : Progress} (ok : Ok k t) where
-  some-left : t .more ≡ true → 0 < t .left
+  pub some-left : t .more ≡ true → 0 < t .left
   some-left go = ltb-true 0 (t .left) (sym (ok .goes) ∙ go)
 
   none-left : t .more ≡ false → t .left ≡ 0

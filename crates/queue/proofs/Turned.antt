@@ -29,7 +29,7 @@ use Rattle.queue.specs.Reading.{readOf, commandRead}
 use Rattle.queue.specs.Turns.{Stands, begunAt, startOf, refusedAt, passedOn, actedOn, handedOn, afterTurn, stepOf, turnOf}
 
 -- a command touches no register
-stepped-registers : (u : ItsState) (x : Command) → stepped u x .registers ≡ u .registers
+pub stepped-registers : (u : ItsState) (x : Command) → stepped u x .registers ≡ u .registers
 unfolding stepped
 stepped-registers u x = cases (accepts u x) (λ y. rw y (rest-effect u x y .1)) (λ n. rw n refl)
 

@@ -1,8 +1,8 @@
 -- The run of the model, taken one command at a time: what is known between two commands, and how the model's turn moves it on.
 -- No sentence of document 01 stands here: proofs/Rest.antt shows that the turns add up to the model's run.
 -- Assumes nothing.
-use Prim.Native.Nat.{ℕ, _+_, _-_, _<_, _≤_}
-use mathlib.Core.Bool.{true, false}
+use Prim.Native.Nat.{ℕ, zero, suc, _+_, _-_, _<_, _≤_}
+use mathlib.Core.Bool.{true, false, not, _&&_}
 use mathlib.Core.List.{List, [], _∷_}
 use mathlib.Core.Option.{Option, none, some}
 use lib.Dec.{leb, ltb}
@@ -102,6 +102,23 @@ stepOf t c =
 
 unfoldable pub turnOf : Window → Progress → Progress
 turnOf w t = afterTurn t (turn w (t .unit))
+
+-- Turn after turn, up to one that hands over an action, or after which nothing is left to do.
+
+-- between two of its turns, with the unit, how many are left and how many were carried out
+abbrev pub between : Progress → ItsState → ℕ → ℕ → Progress
+between t u left done =
+    record { unit = u; left = left; done = done; actions = t .actions; more = true; acted = false; at = t .at; action = t .action; stopped = Ended }
+
+abbrev pub onward : Progress → Progress → Progress
+onward t rest = if t .more && not (t .acted) then rest else t
+
+abbrev pub advanceBy : Window → ℕ → Progress → Progress
+advanceBy w zero t = t
+advanceBy w (suc n) t = onward (turnOf w t) (advanceBy w n (turnOf w t))
+
+unfoldable pub advanceOf : Window → Progress → Progress
+advanceOf w t = advanceBy w (t .left) t
 
 -- The end.
 

@@ -1,8 +1,7 @@
-// The command queue: the guest window, the action row, and the bounded run over both. All behaviour is in `start`, `turn` and `finish`, which
-// go by value; `process_commands` only loops over them and stores the actions.
-use model::Command;
+// The command queue: the guest window, the action row, and the bounded run over both. All behaviour is in `start`, `advance` and `finish`, which
+// go by value; `process_commands` only loops over them and has `store_action` store the actions.
+use command::Seen;
 use model::Decoded;
-use model::Executed;
 use model::GicVcpuId;
 use model::ItsAction;
 use model::ItsRegisters;
@@ -11,14 +10,13 @@ use model::LpiId;
 use model::Refusal;
 ghost use mathlib.Core.Path.{_≡_};
 ghost use mathlib.Core.Bool.{true};
-ghost use Prim.Native.Nat.{_≤_};
-ghost use lib.ListN.{length};
+ghost use Prim.Native.Nat.{_≤_, _<_};
+ghost use lib.ListN.{length, set};
 ghost use Rattle.model.specs.Config.{soundUnit};
-ghost use Rattle.model.specs.Queue.{waiting as waitingOf, judged, runQueue};
-ghost use Rattle.model.specs.Step.{check};
+ghost use Rattle.model.specs.Queue.{waiting as waitingOf, runQueue};
 ghost use Rattle.model.specs.Entry.{rowAfter};
 ghost use Rattle.queue.specs.Reading.{lent, noCommand, commandRead};
-ghost use Rattle.queue.specs.Turns.{Ready, Stands, begunAt, startOf, pastUnit, refusedAt, passedOn, actedOn, afterTurn, stepOf, turnOf, finishOf, processed};
+ghost use Rattle.queue.specs.Turns.{Ready, begunAt, startOf, refusedAt, between, advanceOf, finishOf, processed};
 
 // The guest window: a lent run of bytes with the guest address of its first byte.
 pub struct GuestWindow<'a> {
@@ -140,25 +138,11 @@ pub fn start(unit: ItsState) -> Progress
     begun(unit, count, Stopped::Ended)
 }
 
-// CREADR passes a command.
-fn past_command(unit: ItsState) -> ItsState
-    requires { ⌜ Stands unit ⌝ }
-    ensures { λ r. ⌜ r ≡ pastUnit unit ⌝ }
-{
-    let mut u = unit;
-    let mut registers = u.registers;
-    let size = words::queue_size(registers.cbaser);
-    let next = registers.creadr + 32;
-    registers.creadr = next % size;
-    u.registers = registers;
-    u
-}
-
 // The command on which CREADR stands is refused: CREADR stays, and nothing is left to do.
-fn refused(t: Progress, refusal: Refusal, opcode: u8) -> Progress
-    ensures { λ r. ⌜ r ≡ refusedAt t refusal opcode ⌝ }
+fn refused(t: Progress, unit: ItsState, done: usize, refusal: Refusal, opcode: u8) -> Progress
+    ensures { λ r. ⌜ r ≡ refusedAt (between t unit (t .left) done) refusal opcode ⌝ }
 {
-    let kept = t.unit;
+    let kept = unit;
     let a = t.action;
     Progress {
         more: false,
@@ -166,94 +150,154 @@ fn refused(t: Progress, refusal: Refusal, opcode: u8) -> Progress
         at: t.at,
         action: a,
         left: 0,
-        done: t.done,
+        done: done,
         actions: t.actions,
         stopped: Stopped::Refused(refusal, opcode),
         unit: kept,
     }
 }
 
-// It was carried out and made no action.
-fn passed(t: Progress, unit: ItsState) -> Progress
-    requires { ⌜ Ready t × Stands unit ⌝ }
-    ensures { λ r. ⌜ r ≡ passedOn t unit ⌝ }
-{
-    let u = past_command(unit);
-    let a = t.action;
-    let left = t.left - 1;
-    let done = t.done + 1;
-    let more = 0 < left;
-    Progress {
-        more: more,
-        acted: false,
-        at: t.at,
-        action: a,
-        left: left,
-        done: done,
-        actions: t.actions,
-        stopped: Stopped::Ended,
-        unit: u,
-    }
-}
-
-// It was carried out and made an action, which goes to the first free place of the row.
-fn acted(t: Progress, unit: ItsState, action: ItsAction) -> Progress
-    requires { ⌜ Ready t × Stands unit ⌝ }
-    ensures { λ r. ⌜ r ≡ actedOn t unit action ⌝ }
-{
-    let a = action;
-    let actions = t.actions + 1;
-    let mut p = passed(t, unit);
-    p.acted = true;
-    p.at = t.actions;
-    p.action = a;
-    p.actions = actions;
-    p
-}
-
-// A known command: its checks, its effect, and CREADR past it.
-fn carry_out(t: Progress, opcode: u8, x: Command) -> Progress
+// Commands one after the other, up to one that makes an action, or is refused, or is the last. The unit stays where it is, in `u`, and what a
+// command changes is stored there: a call that took the unit and gave it back would copy all of it.
+pub fn advance(t: Progress, address: u64, bytes: &[u8]) -> Progress
     requires { ⌜ Ready t ⌝ }
-    ensures { λ r. ⌜ r ≡ afterTurn t (judged (check (t .unit) x) x opcode) ⌝ }
+    ensures { λ r. ⌜ r ≡ advanceOf (lent address (now (bytes .entry))) t ⌝ }
 {
-    let unit = t.unit;
-    let r = command::execute(unit, x);
-    let u = r.unit;
-    let e = r.executed;
-    match e {
-        Executed::NotDone(why) => refused(t, why, opcode),
-        Executed::Done => passed(t, u),
-        Executed::Acted(a) => acted(t, u, a),
+    let mut u = t.unit;
+    let mut left = t.left;
+    let mut done = t.done;
+    loop {
+        let mut registers = u.registers;
+        let cbaser = registers.cbaser;
+        let creadr = registers.creadr;
+        let base = words::queue_base(cbaser);
+        let wanted = base + creadr;
+        let c = command_at(address, bytes, wanted);
+        if !c.read {
+            return refused(t, u, done, Refusal::NotInWindow, 0);
+        }
+        let words = c.words;
+        let opcode = words::opcode(words);
+        let Decoded::Known(x) = command::decode(words) else {
+            return refused(t, u, done, Refusal::OpcodeUnknown, opcode);
+        };
+        let q = command::pair_sought(x);
+        let device = q.device;
+        let event = q.event;
+        let mut i = q.from;
+        let held: usize = loop {
+            if 64 <= i {
+                break 256;
+            }
+            let j = i * 4;
+            let r0 = u.translations[j];
+            let r1 = u.translations[j + 1];
+            let r2 = u.translations[j + 2];
+            let r3 = u.translations[j + 3];
+            let k = command::pair_among(r0, r1, r2, r3, device, event);
+            if k < 4 {
+                break j + k;
+            }
+            i += 1;
+        };
+        let mut g = command::free_from(held, q.from);
+        let free: usize = loop {
+            if 64 <= g {
+                break 256;
+            }
+            let j = g * 4;
+            let r0 = u.translations[j];
+            let r1 = u.translations[j + 1];
+            let r2 = u.translations[j + 2];
+            let r3 = u.translations[j + 3];
+            let k = command::free_among(r0, r1, r2, r3);
+            if k < 4 {
+                break j + k;
+            }
+            g += 1;
+        };
+        let place = command::place_seen(held, free);
+        let at = place.at;
+        let mut entry = tables::no_translation();
+        if at < 256 {
+            entry = u.translations[at];
+        }
+        let s = Seen {
+            place: place,
+            entry: entry,
+        };
+        let config = u.config;
+        let devices = u.devices;
+        let collections = u.collections;
+        let plan = command::plan_command(config, devices, collections, s, x);
+        let change = command::change_of(plan);
+        if change.refuses {
+            let why = change.why;
+            return refused(t, u, done, why, opcode);
+        }
+        let device_at = change.device_at;
+        if device_at < 32 {
+            let r = change.device;
+            u.devices[device_at] = r;
+        }
+        let collection_at = change.collection_at;
+        if collection_at < 32 {
+            let r = change.collection;
+            u.collections[collection_at] = r;
+        }
+        let pair_at = change.pair_at;
+        if pair_at < 256 {
+            let r = change.pair;
+            u.translations[pair_at] = r;
+        }
+        if change.drops {
+            u = command::drop_planned(u, plan);
+        }
+        let mut n = command::discard_from(change.discards, held);
+        while n < 256 {
+            let r = u.translations[n];
+            if tables::is_pair(r, device, event) {
+                u.translations[n] = tables::no_translation();
+            }
+            n += 1;
+        }
+        let size = words::queue_size(cbaser);
+        let next = creadr + 32;
+        registers.creadr = next % size;
+        u.registers = registers;
+        left -= 1;
+        done += 1;
+        let more = 0 < left;
+        if change.acts {
+            let a = change.action;
+            let actions = t.actions + 1;
+            return Progress {
+                more: more,
+                acted: true,
+                at: t.actions,
+                action: a,
+                left: left,
+                done: done,
+                actions: actions,
+                stopped: Stopped::Ended,
+                unit: u,
+            };
+        }
+        if !more {
+            let a = t.action;
+            return Progress {
+                more: false,
+                acted: false,
+                at: t.at,
+                action: a,
+                left: 0,
+                done: done,
+                actions: t.actions,
+                stopped: Stopped::Ended,
+                unit: u,
+            };
+        }
     }
-}
-
-// A command that was read, or not: 6, then an unknown command refuses at once.
-fn step(t: Progress, c: CommandRead) -> Progress
-    requires { ⌜ Ready t ⌝ }
-    ensures { λ r. ⌜ r ≡ stepOf t c ⌝ }
-{
-    if !c.read {
-        return refused(t, Refusal::NotInWindow, 0);
-    }
-    let words = c.words;
-    let opcode = words::opcode(words);
-    let Decoded::Known(x) = command::decode(words) else {
-        return refused(t, Refusal::OpcodeUnknown, opcode);
-    };
-    carry_out(t, opcode, x)
-}
-
-// The command on which CREADR stands.
-pub fn turn(t: Progress, address: u64, bytes: &[u8]) -> Progress
-    requires { ⌜ Ready t ⌝ }
-    ensures { λ r. ⌜ r ≡ turnOf (lent address (now (bytes .entry))) t ⌝ }
-{
-    let unit = t.unit;
-    let registers = unit.registers;
-    let base = words::queue_base(registers.cbaser);
-    let wanted = base + registers.creadr;
-    let c = command_at(address, bytes, wanted);
-    step(t, c)
 }
 
 pub fn finish(t: Progress) -> Processed
@@ -269,11 +313,20 @@ pub fn finish(t: Progress) -> Processed
     }
 }
 
-// The same of the window as one reader, for a caller that holds one. The run takes its window apart once and calls `command_at` itself.
+// The same of the window as one reader, for a caller that holds one. The run takes its window apart once: `advance` goes by value, so it is
+// handed address and bytes, and calls `command_at` itself.
 pub fn read_command<'a>(window: GuestWindow<'a>, wanted: u64) -> CommandRead
     ensures { λ r. ⌜ r ≡ commandRead (lent (window .entry .address) (now (window .entry .bytes))) wanted ⌝ }
 {
     command_at(window.address, window.bytes, wanted)
+}
+
+// The one store into the row that the host lends.
+pub fn store_action(row: &mut [ItsAction], at: usize, action: ItsAction)
+    requires { ⌜ at < length (now row) ⌝ }
+    ensures { λ _. ⌜ now (row .exit) ≡ set (now (row .entry)) at action ⌝ }
+{
+    row[at] = action;
 }
 
 // The waiting commands, at most as many as the budget, each in turn; the row gets their actions, the first first.
@@ -290,9 +343,9 @@ pub fn process_commands<'w, 'r>(
     let bytes = window.bytes;
     let mut t = start(unit);
     while t.more {
-        t = turn(t, address, bytes);
+        t = advance(t, address, bytes);
         if t.acted {
-            row[t.at] = t.action;
+            store_action(row, t.at, t.action);
         }
     }
     finish(t)

@@ -1,4 +1,4 @@
-use mathlib.Core.Path.{_≡_, sym, _∙_}
+use mathlib.Core.Path.{_≡_}
 use borrow.Author.Needs.{needs}
 use borrow.Author.Tests.{lt-ltb, le-ltb}
 use lib.ListN.{length}
@@ -8,9 +8,6 @@ use Rattle.model.proofs.TableLoops.{length-mapped}
 use Rattle.command.proofs.Listed.{found-among}
 use Rattle.command.proofs.is_listed.Statement.{statement}
 use Rattle.command.proofs.is_listed.Tie as tie
-use Rattle.command.proofs.is_listed.Reads as reads
-use Rattle.command.proofs.is_listed.Lts as lts
-use Rattle.command.proofs.find_processor.Reads as find-processor-reads
 
 -- src/lib.rt:176:9
 find-processor-requires : tie.Need-find-processor-requires

@@ -46,26 +46,26 @@ enum-told-2 c = search needs
 plan-action-requires-2 : tie.Need-plan-action-requires-2
 plan-action-requires-2 c κs = search needs
 
-enum-known-x-6 : tie.Need-enum-known-x-6
-enum-known-x-6 c = search needs
+enum-told-3 : tie.Need-enum-told-3
+enum-told-3 c = search needs
 
 plan-discard-requires : tie.Need-plan-discard-requires
 plan-discard-requires c κs = search needs
 
-enum-told-3 : tie.Need-enum-told-3
-enum-told-3 c = search needs
+enum-told-4 : tie.Need-enum-told-4
+enum-told-4 c = search needs
 
 plan-invalidate-requires : tie.Need-plan-invalidate-requires
 plan-invalidate-requires c κs = search needs
 
-enum-known-x-7 : tie.Need-enum-known-x-7
-enum-known-x-7 c = search needs
+enum-known-x-6 : tie.Need-enum-known-x-6
+enum-known-x-6 c = search needs
 
 plan-invalidate-all-requires : tie.Need-plan-invalidate-all-requires
 plan-invalidate-all-requires c κs = search needs
 
-enum-told-4 : tie.Need-enum-told-4
-enum-told-4 c = search needs
+enum-told-5 : tie.Need-enum-told-5
+enum-told-5 c = search needs
 
 returns : tie.Need-returns
 returns c = rw (c .before .before .x .given .1) (c .plan-map-device .ensures)
@@ -89,16 +89,16 @@ returns-7 : tie.Need-returns-7
 returns-7 c = rw (c .before .enum-told2 .given .1) (c .plan-action2 .ensures)
 
 returns-8 : tie.Need-returns-8
-returns-8 c = rw (c .before .before .x6 .given .1) (c .plan-discard .ensures)
+returns-8 c = rw (c .before .enum-told3 .given .1) (c .plan-discard .ensures)
 
 returns-9 : tie.Need-returns-9
-returns-9 c = rw (c .before .enum-told3 .given .1) (c .plan-invalidate .ensures)
+returns-9 c = rw (c .before .enum-told4 .given .1) (c .plan-invalidate .ensures)
 
 returns-10 : tie.Need-returns-10
-returns-10 c = rw (c .before .before .x7 .given .1) (c .plan-invalidate-all .ensures)
+returns-10 c = rw (c .before .before .x6 .given .1) (c .plan-invalidate-all .ensures)
 
 returns-11 : tie.Need-returns-11
-returns-11 c = rw (c .enum-told4 .given .1)
+returns-11 c = rw (c .enum-told5 .given .1)
 
 pub plan-command-spec : {M : Type 1} → statement M
 plan-command-spec =
@@ -118,13 +118,13 @@ plan-command-spec =
     plan-action-requires
     enum-told-2
     plan-action-requires-2
-    enum-known-x-6
-    plan-discard-requires
     enum-told-3
-    plan-invalidate-requires
-    enum-known-x-7
-    plan-invalidate-all-requires
+    plan-discard-requires
     enum-told-4
+    plan-invalidate-requires
+    enum-known-x-6
+    plan-invalidate-all-requires
+    enum-told-5
     returns
     returns-2
     returns-3

@@ -1,0 +1,14 @@
+-- `command::place_seen` meets its contract.
+-- Assumes nothing.
+use borrow.Author.Tests.{lt-ltb, le-ltb}
+use Rattle.command.proofs.place_seen.Statement.{statement}
+use Rattle.command.proofs.place_seen.Tie as tie
+
+returns : tie.Need-returns
+returns c = rw (lt-ltb _ _ (c .if1 .taken))
+
+returns-2 : tie.Need-returns-2
+returns-2 c = rw (le-ltb _ _ (c .if1 .left))
+
+pub place-seen-spec : {M : Type 1} → statement M
+place-seen-spec = tie.close (tie.spec returns returns-2)
