@@ -11,7 +11,7 @@ use Rattle.model.specs.declared.Verdict.the-variants.{Accepted, Refused}
 use Rattle.model.specs.declared.ReadAnswer.the-variants.{Value, NoValue}
 use Rattle.model.specs.Register.{registerAt, valueOf, readOf, valueWritten}
 use Rattle.model.specs.Entry.{checkRead, read}
-use Rattle.its.specs.Prepared.{bare}
+use Rattle.registers.specs.Writing.{bare}
 
 module _ (u : ItsState) where
   pub value-bare : (r : Register) → valueOf (bare (u .config) (u .registers)) r ≡ valueOf u r

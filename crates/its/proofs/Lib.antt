@@ -1,6 +1,6 @@
-pub mod Left
-pub mod Offsets
 pub mod Bare
 pub mod Delivers
-pub mod Stores
 pub mod Writes
+pub mod Boxed
+pub mod LocalRow
+pub mod Lending

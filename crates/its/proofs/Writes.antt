@@ -2,9 +2,10 @@
 -- not above the row's length.
 -- Assumes nothing.
 use Prim.Native.Nat.{ℕ, _≤_}
-use mathlib.Core.Path.{_≡_, refl, sym}
-use mathlib.Core.Bool.{true}
+use mathlib.Core.Path.{_≡_, refl, sym, _∙_, ap}
+use mathlib.Core.Bool.{true, false}
 use mathlib.Core.List.{List}
+use mathlib.Core.Option.{Option, none, some}
 use lib.ListN.{length}
 use lib.Dec.{leb, eqb}
 use borrow.Author.Tests.{leb-true}
@@ -16,15 +17,21 @@ use Rattle.model.specs.declared.Register.{Register}
 use Rattle.model.specs.declared.Register.the-variants.{Ctlr, Iidr, Typer, Cbaser, Cwriter, Creadr, Baser, Reserved}
 use Rattle.model.specs.declared.Verdict.{Verdict}
 use Rattle.model.specs.declared.Verdict.the-variants.{Accepted, Refused}
-use Rattle.model.specs.Choose.{if_then_else_}
+use Rattle.model.specs.declared.WriteAnswer.{WriteAnswer}
+use Rattle.model.specs.declared.WriteAnswer.the-variants.{Taken, NotTaken}
+use Rattle.model.specs.Choose.{if_then_else_, ifFound}
 use Rattle.model.specs.Config.{queueBase, soundConfig, soundRing, soundUnit}
-use Rattle.model.specs.Queue.{Window, runQueue}
+use Rattle.model.specs.Queue.{Window, Stop, Ran, runQueue}
 use Rattle.model.specs.Register.{registerAt, valueWritten, writerTaken, writerAccepted}
-use Rattle.model.specs.Entry.{checkWrite, ifAccepted, Outcome, refuse, afterRun, running, writeTo, write}
+use Rattle.model.specs.Entry.{checkWrite, ifAccepted, Outcome, refuse, rowAfter, afterRun, running, writeTo, write}
+use Rattle.queue.specs.declared.Processed.{Processed}
+use Rattle.queue.specs.Turns.{stoppedOf, processed}
+use Rattle.its.specs.Contracts.{Writes}
 use Rattle.model.proofs.Cases.{cases, never, and-left, and-right, both}
 use Rattle.model.proofs.Waiting.{writer-sound}
 use Rattle.its.specs.declared.Prepared.{Prepared}
-use Rattle.its.specs.Prepared.{bare, refusing, toCtlr, toCbaser, toCwriter, toBaser, writing, checkedFor, accepting, accessing, preparedBy, prepared}
+use Rattle.registers.specs.Writing.{bare, refusing, toCtlr, toCbaser, toCwriter, toBaser, writing, accepting}
+use Rattle.its.specs.Prepared.{checkedFor, accessing, preparedBy, prepared, asPrepared, answerWith, answerAfter, afterwards}
 use Rattle.its.proofs.Bare.{written-bare}
 
 -- what a write comes to once it is prepared
@@ -107,3 +114,28 @@ module _ (u : ItsState) (room offset width value : ℕ) where
   pub ready-to-run : prepared u room offset width value .runs ≡ true → ReadyToRun (prepared u room offset width value) room
   unfolding prepared accessing accepting
   ready-to-run h = by-check (checkedFor (u .config) (u .registers) room offset width) refl _ (registerAt offset) h
+
+-- The two ways of a write, as its contract states them: the answer and what is left in the row, where the queue does not run and where it does.
+
+by-stop : (o : Option Stop) (q : Processed) →
+    answerWith (stoppedOf o) q ≡ ifFound o (λ s. NotTaken (s .refusal) (s .opcode) (q .unit .registers .creadr) (q .done)) (Taken (q .done) (q .actions))
+by-stop none q = refl
+by-stop (some s) q = refl
+
+ran : (r : Ran) (row : List ItsAction) → afterwards (processed r) ≡ afterRun r row .written
+unfolding answerAfter
+ran r row = ap (λ (a : WriteAnswer). record { unit = r .unit; answer = a }) (by-stop (r .stopped) (processed r))
+
+module _ (w : Window) (row : List ItsAction) (u : ItsState) (offset width value : ℕ) where
+  abbrev ready : Prepared
+  ready = prepared u (length row) offset width value
+
+  pub as-left : ready .runs ≡ false → Writes w row u offset width value (asPrepared ready) row
+  as-left off =
+      let e = rw off at (as-prepared w row u (length row) offset width value refl) in
+      (sym (ap (λ (o : Outcome). o .written) e), sym (ap (λ (o : Outcome). o .row) e))
+
+  pub as-ran : ready .runs ≡ true → Writes w row u offset width value (afterwards (processed (runQueue w (ready .unit)))) (rowAfter (runQueue w (ready .unit) .actions) row)
+  as-ran on =
+      let e = rw on at (as-prepared w row u (length row) offset width value refl) in
+      (ran (runQueue w (ready .unit)) row ∙ sym (ap (λ (o : Outcome). o .written) e), sym (ap (λ (o : Outcome). o .row) e))

@@ -1,0 +1,34 @@
+-- What a write to CBASER and to a BASER comes to, by the enable bit and the base.
+-- Assumes nothing.
+use Prim.Native.Nat.{ℕ}
+use mathlib.Core.Path.{_≡_, sym, ap, _∙_}
+use mathlib.Core.Bool.{true, false}
+use lib.Dec.{eqb}
+use borrow.Author.Tests.{eq-eqb, ne-eqb}
+use Rattle.model.specs.declared.ItsRegisters.{ItsRegisters}
+use Rattle.model.specs.declared.Refusal.the-variants.{BaseZero}
+use Rattle.model.specs.Config.{queueBase}
+use Rattle.model.specs.Register.{withCbaser, withBaser}
+use Rattle.registers.specs.Writing.{refusing, storing, toCbaser, toBaser}
+
+module _ (r : ItsRegisters) (value : ℕ) where
+  pub cbaser-ignored : r .enabled ≡ true → toCbaser r value ≡ storing r
+  unfolding toCbaser
+  cbaser-ignored on = rw on
+
+  -- b is the base
+  pub cbaser-refused : r .enabled ≡ false → (b : ℕ) → b ≡ queueBase value → b ≡ 0 → toCbaser r value ≡ refusing r 0 BaseZero
+  unfolding toCbaser
+  cbaser-refused off b e z = rw (off, sym (ap (λ n. eqb n 0) e) ∙ eq-eqb b 0 z)
+
+  pub cbaser-stored : r .enabled ≡ false → (b : ℕ) → b ≡ queueBase value → (b ≡ 0 → ⊥) → toCbaser r value ≡ storing (withCbaser r value)
+  unfolding toCbaser
+  cbaser-stored off b e z = rw (off, sym (ap (λ n. eqb n 0) e) ∙ ne-eqb b 0 z)
+
+  pub baser-ignored : (n : ℕ) → r .enabled ≡ true → toBaser r n value ≡ storing r
+  unfolding toBaser
+  baser-ignored n on = rw on
+
+  pub baser-stored : (n : ℕ) → r .enabled ≡ false → toBaser r n value ≡ storing (withBaser r n value)
+  unfolding toBaser
+  baser-stored n off = rw off

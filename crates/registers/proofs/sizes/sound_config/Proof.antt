@@ -1,0 +1,19 @@
+-- `registers::sizes::sound_config` meets its contract: the tests of the definition.
+-- Assumes nothing.
+use borrow.Author.Needs.{needs}
+use Rattle.model.specs.Config.{soundConfig}
+use Rattle.registers.proofs.sizes.sound_config.Statement.{statement}
+use Rattle.registers.proofs.sizes.sound_config.Tie as tie
+
+cast-none-twice : tie.Need-cast-none-twice
+cast-none-twice c = search needs
+
+none-twice-requires : tie.Need-none-twice-requires
+none-twice-requires c κs = search needs
+
+returns : tie.Need-returns
+unfolding soundConfig
+returns c = rw (c .none-twice .ensures)
+
+pub sound-config-spec : {M : Type 1} → statement M
+sound-config-spec = tie.close (tie.spec cast-none-twice none-twice-requires returns)

@@ -1,0 +1,238 @@
+// The registers of the frame: which accesses are taken (access.rt), which configurations and rings are sound (sizes.rt), what a register reads, and
+// what a write leaves in the registers. Nothing here looks at a table. What a write to a register leaves is said in specs/Writing.antt.
+pub mod access;
+pub mod sizes;
+
+use model::ItsConfig;
+use model::ItsRegisters;
+use model::Refusal;
+use model::Register;
+use model::WriteAnswer;
+ghost use mathlib.Core.Path.{_≡_};
+ghost use lib.ListN.{getD};
+ghost use Rattle.model.specs.Register.{ctlrValue, registerAt, valueOf, readOf, valueWritten, withBaser, writerTaken, writerAccepted};
+ghost use Rattle.registers.specs.Writing.{bare, refusing, storing, going, toCtlr, toCbaser, toCwriter, toBaser, writing, accepting};
+
+// What a write comes to before any command runs: the registers that it leaves, its answer so far, and whether the queue is to run.
+pub struct RegisterWrite {
+    pub registers: ItsRegisters,
+    pub answer: WriteAnswer,
+    pub runs: bool,
+}
+
+// GITS_CTLR: the enable bit, and bit 31.
+fn ctlr(enabled: bool) -> u64
+    ensures { λ r. ⌜ r ≡ ctlrValue enabled ⌝ }
+{
+    if enabled { 0x8000_0001 } else { 0x8000_0000 }
+}
+
+// GITS_BASER n; 0 where there is none.
+fn baser(registers: ItsRegisters, index: usize) -> u64
+    ensures { λ r. ⌜ r ≡ getD (registers .basers) index 0 ⌝ }
+{
+    let basers = registers.basers;
+    if index < 8 { basers[index] } else { 0 }
+}
+
+fn register_value(config: ItsConfig, registers: ItsRegisters, register: Register) -> u64
+    ensures { λ r. ⌜ r ≡ valueOf (bare config registers) register ⌝ }
+{
+    match register {
+        Register::Ctlr => ctlr(registers.enabled),
+        Register::Iidr => 0x43b,
+        Register::Typer => words::its_typer(config.lpi_limit),
+        Register::Cbaser => registers.cbaser,
+        Register::Cwriter => registers.cwriter,
+        Register::Creadr => registers.creadr,
+        Register::Baser(index) => baser(registers, index),
+        Register::Reserved => 0,
+    }
+}
+
+// What an access reads.
+pub fn read_register(config: ItsConfig, registers: ItsRegisters, offset: u64, width: u8) -> u64
+    ensures { λ r. ⌜ r ≡ readOf (bare config registers) offset width (registerAt offset) ⌝ }
+{
+    let register = crate::access::register_at(offset);
+    let value = register_value(config, registers, register);
+    if crate::access::is_wide(register) {
+        return words::read_wide_register(value, offset, width);
+    }
+    value
+}
+
+// What an access writes: a narrow one to a 64-bit register leaves the other half.
+fn merge_value(
+    config: ItsConfig,
+    registers: ItsRegisters,
+    register: Register,
+    offset: u64,
+    width: u8,
+    value: u64,
+) -> u64
+    ensures { λ r. ⌜ r ≡ valueWritten (bare config registers) offset width value register ⌝ }
+{
+    if crate::access::is_wide(register) {
+        let current = register_value(config, registers, register);
+        return words::merge_wide_register(current, offset, width, value);
+    }
+    value
+}
+
+// The three ways in which a write goes: refused, stored with nothing to run, stored with the queue to run.
+pub fn refused(registers: ItsRegisters, offset: u64, refusal: Refusal) -> RegisterWrite
+    ensures { λ r. ⌜ r ≡ refusing registers offset refusal ⌝ }
+{
+    let why = refusal;
+    let kept = registers;
+    RegisterWrite {
+        registers: kept,
+        answer: WriteAnswer::NotTaken {
+            refusal: why,
+            opcode: 0,
+            offset: offset,
+            done: 0,
+        },
+        runs: false,
+    }
+}
+
+fn stored(registers: ItsRegisters) -> RegisterWrite
+    ensures { λ r. ⌜ r ≡ storing registers ⌝ }
+{
+    let kept = registers;
+    RegisterWrite {
+        registers: kept,
+        answer: WriteAnswer::Taken {
+            done: 0,
+            actions: 0,
+        },
+        runs: false,
+    }
+}
+
+fn stored_to_run(registers: ItsRegisters) -> RegisterWrite
+    ensures { λ r. ⌜ r ≡ going registers ⌝ }
+{
+    let kept = registers;
+    RegisterWrite {
+        registers: kept,
+        answer: WriteAnswer::Taken {
+            done: 0,
+            actions: 0,
+        },
+        runs: true,
+    }
+}
+
+fn set_enabled(registers: ItsRegisters, value: u64) -> RegisterWrite
+    ensures { λ r. ⌜ r ≡ toCtlr registers value ⌝ }
+{
+    let mut next = registers;
+    next.enabled = value % 2 == 1;
+    stored_to_run(next)
+}
+
+// Bit 63, Arm's Valid, is not looked at.
+fn set_cbaser(registers: ItsRegisters, value: u64) -> RegisterWrite
+    ensures { λ r. ⌜ r ≡ toCbaser registers value ⌝ }
+{
+    if registers.enabled {
+        return stored(registers);
+    }
+    let base = words::queue_base(value);
+    if base == 0 {
+        return refused(registers, 0, Refusal::BaseZero);
+    }
+    let mut next = registers;
+    next.cbaser = value;
+    next.creadr = 0;
+    next.cwriter = 0;
+    stored(next)
+}
+
+// With CBASER zero the whole value counts.
+fn writer_taken(registers: ItsRegisters, value: u64) -> u64
+    ensures { λ r. ⌜ r ≡ writerTaken registers value ⌝ }
+{
+    if registers.cbaser == 0 {
+        return value;
+    }
+    value % 0x10_0000
+}
+
+fn writer_accepted(registers: ItsRegisters, writer: u64) -> bool
+    ensures { λ r. ⌜ r ≡ writerAccepted registers writer ⌝ }
+{
+    let cbaser = registers.cbaser;
+    if cbaser == 0 {
+        return writer == 0;
+    }
+    crate::sizes::is_queue_offset(cbaser, writer)
+}
+
+fn set_cwriter(registers: ItsRegisters, value: u64) -> RegisterWrite
+    ensures { λ r. ⌜ r ≡ toCwriter registers value ⌝ }
+{
+    let writer = writer_taken(registers, value);
+    if !writer_accepted(registers, writer) {
+        return refused(registers, writer, Refusal::WriterRefused);
+    }
+    let mut next = registers;
+    next.cwriter = writer;
+    stored_to_run(next)
+}
+
+// The registers with BASER n written; where there is none, as they were.
+fn with_baser(registers: ItsRegisters, index: usize, value: u64) -> ItsRegisters
+    ensures { λ r. ⌜ r ≡ withBaser registers index value ⌝ }
+{
+    let present = baser(registers, index);
+    let next = words::set_baser(present, value);
+    let mut left = registers;
+    if index < 8 {
+        left.basers[index] = next;
+    }
+    left
+}
+
+fn set_baser(registers: ItsRegisters, index: usize, value: u64) -> RegisterWrite
+    ensures { λ r. ⌜ r ≡ toBaser registers index value ⌝ }
+{
+    if registers.enabled {
+        return stored(registers);
+    }
+    let next = with_baser(registers, index, value);
+    stored(next)
+}
+
+fn write_register(registers: ItsRegisters, register: Register, value: u64) -> RegisterWrite
+    ensures { λ r. ⌜ r ≡ writing registers value register ⌝ }
+{
+    match register {
+        Register::Ctlr => set_enabled(registers, value),
+        Register::Iidr => stored(registers),
+        Register::Typer => stored(registers),
+        Register::Cbaser => set_cbaser(registers, value),
+        Register::Cwriter => set_cwriter(registers, value),
+        Register::Creadr => stored(registers),
+        Register::Baser(index) => set_baser(registers, index, value),
+        Register::Reserved => stored(registers),
+    }
+}
+
+// A write that was not refused at the entry.
+pub fn write_accepted(
+    config: ItsConfig,
+    registers: ItsRegisters,
+    offset: u64,
+    width: u8,
+    value: u64,
+) -> RegisterWrite
+    ensures { λ r. ⌜ r ≡ accepting config registers offset width value ⌝ }
+{
+    let register = crate::access::register_at(offset);
+    let merged = merge_value(config, registers, register, offset, width, value);
+    write_register(registers, register, merged)
+}
