@@ -1,6 +1,6 @@
 #!/bin/sh
 # docs/DIFFERENCES.md against the files: every entry of its tables is there with all its parts, under the same title and in order; each trace on
-# the page is the file in oracle/traces, each run of lines the file in oracle/recorded; and every difference-*.txt is on the page. It compares files
+# the page is the file in oracle/traces, each run of lines the file in crates/replay/data/recorded; and every difference-*.txt is on the page. It compares files
 # only and builds nothing: that the recorded lines are the Rust's is for tools/oracle.sh.
 set -u
 cd "$(dirname "$0")/.." || exit 2
@@ -88,9 +88,9 @@ for block in "$work"/trace/*; do
     name=$(basename "$block")
     traces=$((traces + 1))
     held "$block" "oracle/traces/$name.txt"
-    held "$work/lines/$name" "oracle/recorded/$name.expect"
+    held "$work/lines/$name" "crates/replay/data/recorded/$name.expect"
 done
-for file in oracle/traces/difference-*.txt oracle/recorded/difference-*.expect; do
+for file in oracle/traces/difference-*.txt crates/replay/data/recorded/difference-*.expect; do
     name=$(basename "${file%.*}")
     if [ ! -f "$work/trace/$name" ]; then
         echo "check-differences: $file is not in $page"

@@ -1,6 +1,6 @@
 #!/bin/sh
 # The definitions of crates/model, run: antt computes the lines that they give for recorded traces, and each must be the Rust's answers, byte for
-# byte. The traces are those of oracle/recorded up to a size (the first argument, in bytes); a recording that ends at a 9, where the Rust is left,
+# byte. The traces are those of crates/replay/data/recorded up to a size (the first argument, in bytes); a recording that ends at a 9, where the Rust is left,
 # is passed over. Nothing is written into the repository: the checks stand in a copy of the crate.
 set -eu
 root=$(cd "$(dirname "$0")/.." && pwd)
@@ -10,7 +10,7 @@ trap 'rm -rf "$work"' EXIT
 
 mkdir "$work/model"
 for part in src specs proofs; do cp -R "$root/crates/model/$part" "$work/model/$part"; done
-python3 - "$root/oracle/recorded" "$work/model/proofs" "$limit" <<'PY'
+python3 - "$root/crates/replay/data/recorded" "$work/model/proofs" "$limit" <<'PY'
 import glob, os, sys
 
 folder, proofs, limit = sys.argv[1], sys.argv[2], int(sys.argv[3])

@@ -6,7 +6,8 @@ set -eu
 
 root=$(cd "$(dirname "$0")/.." && pwd)
 sources=${ARM_VGIC_SOURCES:-$root/../shared/docs}
-guests=${LINUX_TRACES:-$root/../shared/linux}
+recorded=$root/crates/replay/data/recorded
+guests=$root/crates/replay/data/linux
 work=$(mktemp -d)
 trap 'rm -rf "$work"' EXIT
 cd "$root/oracle"
@@ -34,7 +35,7 @@ cargo build --offline --quiet --release
 program=target/release/oracle
 
 say "tests"
-LINUX_TRACES=$guests cargo test --offline --quiet --release >"$work/tests" 2>&1 || {
+cargo test --offline --quiet --release >"$work/tests" 2>&1 || {
     cat "$work/tests" >&2
     exit 1
 }
@@ -42,15 +43,11 @@ awk '/^test result/ { passed += $4 } END { print passed " tests passed" }' "$wor
 
 say "the recorded list, made again"
 "$program" record "$work/recorded"
-diff -r recorded "$work/recorded"
-"$program" check recorded
+diff -r "$recorded" "$work/recorded"
+"$program" check "$recorded"
 
 say "real guests' traffic"
-if [ -d "$guests" ]; then
-    "$program" check "$guests"
-else
-    echo "not compared: no folder $guests (LINUX_TRACES names it)"
-fi
+"$program" check "$guests"
 
 say "coverage of the generated traces"
 "$program" coverage >"$work/coverage" 2>"$work/missing" || {

@@ -121,6 +121,12 @@ impl Run {
 }
 
 impl Around {
+    pub fn add(&mut self, more: &Self) {
+        self.unconfigured += more.unconfigured;
+        self.other_width += more.other_width;
+        self.identification += more.identification;
+    }
+
     fn count(&mut self, record: &Record, answer: &Answer) {
         let (width, refusal) = match (record, answer) {
             (Record::Rd { width, .. }, Answer::Rd(Err(refusal))) => (*width, *refusal),

@@ -1,7 +1,7 @@
 //! Another implementation's answer to a trace, held against the Rust's.
 
 use crate::answers::Answers;
-use crate::recorded::first_difference;
+use crate::lines::first_difference;
 use crate::room::{MOST_OUTPUT, returned, written};
 
 /// What is different between the Rust's answers and a C call that wrote these

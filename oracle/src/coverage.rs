@@ -19,7 +19,7 @@ pub use counts::Counts;
 use state::{Seen, State};
 
 /// One part of the picture, such as the commands or the retries.
-trait Part {
+trait Part: Send {
     /// The counts that this part keeps: rows, and the columns of each.
     fn rows(&self) -> Vec<(String, Vec<String>)>;
     /// A new trace begins.
@@ -81,10 +81,17 @@ impl Coverage {
         }
         let answers = watched_answers(trace, self);
         self.ended_at_nine += u64::from(answers.ended_at_nine);
-        self.around.unconfigured += answers.around.unconfigured;
-        self.around.other_width += answers.around.other_width;
-        self.around.identification += answers.around.identification;
+        self.around.add(&answers.around);
         answers
+    }
+
+    /// Adds what another has counted, over other traces.
+    pub fn absorb(&mut self, other: &Self) {
+        self.counts.absorb(&other.counts);
+        self.traces += other.traces;
+        self.records += other.records;
+        self.ended_at_nine += other.ended_at_nine;
+        self.around.add(&other.around);
     }
 
     /// The counts as lines of text.

@@ -10,7 +10,7 @@ mod good;
 mod guest;
 mod keys;
 mod picks;
-mod random;
+pub mod random;
 mod ring;
 
 use families::FAMILIES;

@@ -6,6 +6,7 @@ use std::path::Path;
 use crate::answers::answers;
 use crate::exhaustive::{self, Named};
 use crate::generate::{self, trace_for};
+use crate::lines::first_difference;
 use crate::room::PROGRAM_BUFFER;
 use crate::text;
 
@@ -60,27 +61,6 @@ pub fn check(folder: &Path) -> Result<usize, String> {
         }
     }
     Ok(names.len())
-}
-
-/// The first line in which two runs of lines differ.
-pub fn first_difference(lines: &[u8], expected: &[u8]) -> Option<String> {
-    if lines == expected {
-        return None;
-    }
-    let lines = String::from_utf8_lossy(lines);
-    let expected = String::from_utf8_lossy(expected);
-    let (mut ours, mut theirs) = (lines.lines(), expected.lines());
-    let mut number = 1;
-    loop {
-        match (ours.next(), theirs.next()) {
-            (Some(one), Some(other)) if one == other => number += 1,
-            (one, other) => {
-                let one = one.unwrap_or("no line");
-                let other = other.unwrap_or("no line");
-                return Some(format!("line {number} is `{one}`, expected `{other}`"));
-            }
-        }
-    }
 }
 
 fn written_by_hand(folder: &Path) -> Result<Vec<Named>, String> {

@@ -31,6 +31,15 @@ impl Counts {
         count.1 += 1;
     }
 
+    /// Adds the counts of another, which lists the same.
+    pub fn absorb(&mut self, other: &Self) {
+        for (row, added) in self.rows.iter_mut().zip(&other.rows) {
+            for (count, more) in row.columns.iter_mut().zip(&added.columns) {
+                count.1 += more.1;
+            }
+        }
+    }
+
     pub fn report(&self) -> String {
         let width = self.rows.iter().map(|row| row.name.len()).max();
         let width = width.unwrap_or(0);

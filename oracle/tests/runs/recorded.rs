@@ -6,18 +6,22 @@ use oracle::answers::answers;
 use oracle::generate::trace_for;
 use oracle::recorded::{check, list};
 
-const HERE: &str = env!("CARGO_MANIFEST_DIR");
+const TEXTS: &str = concat!(env!("CARGO_MANIFEST_DIR"), "/traces");
+const RECORDED: &str = concat!(
+    env!("CARGO_MANIFEST_DIR"),
+    "/../crates/replay/data/recorded"
+);
 
 #[test]
 fn the_recorded_traces_are_answered_as_recorded() {
-    check(&Path::new(HERE).join("recorded")).expect("every line as recorded");
+    check(Path::new(RECORDED)).expect("every line as recorded");
 }
 
 #[test]
 fn the_list_makes_the_recorded_traces() {
-    let traces = list(&Path::new(HERE).join("traces")).expect("well-formed texts");
+    let traces = list(Path::new(TEXTS)).expect("well-formed texts");
     for (name, trace) in &traces {
-        let path = Path::new(HERE).join("recorded").join(name);
+        let path = Path::new(RECORDED).join(name);
         let recorded = std::fs::read(path.with_extension("trace"));
         assert!(recorded.is_ok_and(|recorded| recorded == *trace), "{name}");
     }

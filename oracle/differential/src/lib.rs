@@ -1,0 +1,17 @@
+//! The C call `its_trace`, linked natively, held against the published Rust and
+//! against what document 01 says of its output.
+
+pub mod call;
+pub mod damage;
+pub mod damaged;
+#[cfg(feature = "published")]
+pub mod differ;
+pub mod numbers;
+pub mod recorded;
+pub mod rooms;
+#[cfg(feature = "published")]
+pub mod run;
+pub mod shape;
+#[cfg(feature = "published")]
+pub mod shrink;
+pub mod workers;

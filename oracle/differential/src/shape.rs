@@ -1,0 +1,112 @@
+//! Whether lines can be the answer to a trace at all, without asking the Rust:
+//! a line for each record in order, its numbers in decimal and within their
+//! kinds, as many AC lines as the write before them says, and `??` with the
+//! right offset where the trace breaks off.
+
+use oracle::record::{Record, Records};
+use oracle::room::MOST_OUTPUT;
+
+/// The longest line that there is: a mark, five numbers of twenty digits with a
+/// space before each, and the newline.
+const LONGEST_LINE: usize = 2 + 5 * 21 + 1;
+
+/// What is wrong with the lines that an output of the most bytes holds, if
+/// anything. `cut` says that a line did not fit: then there must be a record
+/// left to answer, and no room for the longest line.
+pub fn fault(trace: &[u8], lines: &[u8], cut: bool) -> Option<String> {
+    if cut && lines.len() + LONGEST_LINE <= MOST_OUTPUT {
+        return Some("a line is said not to fit, and there is room for any".into());
+    }
+    let text = match std::str::from_utf8(lines) {
+        Ok(text) => text,
+        Err(_) => return Some("a line is not text".into()),
+    };
+    if !text.is_empty() && !text.ends_with('\n') {
+        return Some("the last line does not end".into());
+    }
+    let mut rest = text.lines();
+    for next in Records::of(trace) {
+        let wanted = match &next {
+            Ok(record) => mark(record),
+            Err(_) => "??",
+        };
+        let Some(line) = rest.next() else {
+            return (!cut).then(|| format!("no line for a record {wanted}"));
+        };
+        let words: Vec<&str> = line.split(' ').collect();
+        let numbers: Option<Vec<u64>> = words[1..].iter().map(|word| decimal(word)).collect();
+        let Some(numbers) = numbers else {
+            return Some(format!("`{line}` has a word that is no number"));
+        };
+        let right = words[0] == wanted
+            && match (&next, &numbers[..]) {
+                (Ok(Record::Cf(_)), [refusal]) => *refusal <= 1,
+                (Ok(Record::Gm { .. }), [refusal]) => *refusal == 0,
+                (Ok(Record::Rd { .. }), [refusal, value]) => {
+                    matches!(refusal, 0..=3) && (*refusal == 0 || *value == 0)
+                }
+                (Ok(Record::Tr { .. }), [refusal, lpi, processor]) => {
+                    matches!(refusal, 0 | 1 | 8) && (*refusal == 0 || *lpi == 0 && *processor == 0)
+                }
+                (Ok(Record::Wr { .. }), [refusal, opcode, _, done, actions]) => {
+                    matches!(refusal, 0..=9)
+                        && *opcode <= 255
+                        && *done <= 1024
+                        && actions <= done
+                        && (*refusal == 0 || *actions == 0)
+                }
+                (Err(malformed), [offset]) => *offset == malformed.offset as u64,
+                _ => false,
+            };
+        if !right {
+            return Some(format!("`{line}` cannot answer a record {wanted}"));
+        }
+        if let (Ok(Record::Wr { .. }), [.., actions]) = (&next, &numbers[..]) {
+            for _ in 0..*actions {
+                match rest.next() {
+                    Some(line) if is_action(line) => {}
+                    Some(line) => return Some(format!("`{line}` is no action")),
+                    None => return (!cut).then(|| "an action without a line".into()),
+                }
+            }
+        }
+    }
+    if cut {
+        return Some("a line is said not to fit, and every record has its lines".into());
+    }
+    rest.next()
+        .map(|line| format!("`{line}` answers no record"))
+}
+
+fn mark(record: &Record) -> &'static str {
+    match record {
+        Record::Cf(_) => "CF",
+        Record::Gm { .. } => "GM",
+        Record::Rd { .. } => "RD",
+        Record::Wr { .. } => "WR",
+        Record::Tr { .. } => "TR",
+    }
+}
+
+/// A number as the lines have it: digits, no sign, no zero in front.
+fn decimal(word: &str) -> Option<u64> {
+    let plain = word.bytes().all(|byte| byte.is_ascii_digit());
+    let short = word == "0" || !word.starts_with('0');
+    if plain && short {
+        word.parse().ok()
+    } else {
+        None
+    }
+}
+
+fn is_action(line: &str) -> bool {
+    let words: Vec<&str> = line.split(' ').collect();
+    match &words[..] {
+        ["AC", processor, lpi, pending] => {
+            decimal(processor).is_some_and(|processor| processor <= 65_535)
+                && decimal(lpi).is_some_and(|lpi| (8_192..=16_777_215).contains(&lpi))
+                && matches!(*pending, "0" | "1")
+        }
+        _ => false,
+    }
+}

@@ -1,0 +1,22 @@
+//! Two runs of lines, held against each other.
+
+/// The first line in which two runs of lines differ.
+pub fn first_difference(lines: &[u8], expected: &[u8]) -> Option<String> {
+    if lines == expected {
+        return None;
+    }
+    let lines = String::from_utf8_lossy(lines);
+    let expected = String::from_utf8_lossy(expected);
+    let (mut ours, mut theirs) = (lines.lines(), expected.lines());
+    let mut number = 1;
+    loop {
+        match (ours.next(), theirs.next()) {
+            (Some(one), Some(other)) if one == other => number += 1,
+            (one, other) => {
+                let one = one.unwrap_or("no line");
+                let other = other.unwrap_or("no line");
+                return Some(format!("line {number} is `{one}`, expected `{other}`"));
+            }
+        }
+    }
+}
