@@ -1,0 +1,77 @@
+-- FIRMNESS: one answer meets the contract of each public entry, and only one. Each contract is an equation, so two answers that meet it are both
+-- equal to the same thing.
+-- Assumes nothing.
+use Prim.Native.Nat.{ℕ}
+use mathlib.Core.Path.{_≡_, refl, sym, ap, ap₂, _∙_}
+use mathlib.Core.List.{List, _++_}
+use lib.ListN.{take, drop}
+use Rattle.model.specs.declared.ItsDeviceId.{ItsDeviceId}
+use Rattle.model.specs.declared.EventId.{EventId}
+use Rattle.model.specs.declared.ItsConfig.{ItsConfig}
+use Rattle.model.specs.declared.ItsState.{ItsState}
+use Rattle.model.specs.declared.ItsAction.{ItsAction}
+use Rattle.model.specs.declared.ReadAnswer.{ReadAnswer}
+use Rattle.model.specs.declared.TranslateAnswer.{TranslateAnswer}
+use Rattle.model.specs.declared.Configured.{Configured}
+use Rattle.model.specs.Config.{noUnit}
+use Rattle.model.specs.Queue.{Window}
+use Rattle.model.specs.Trace.{lentRow, returned, outputAfter}
+use Rattle.model.specs.Entry.{Outcome, configure, read, write, translate}
+use Rattle.its.specs.declared.WrittenRow.{WrittenRow}
+use Rattle.its.specs.Contracts.{NoUnit, Configures, Reads, Writes, besideRow, WritesLent, Translates}
+use Rattle.guarantees.specs.Firm.{Answered, Firm, WritesBoth, OfEveryEntry, TraceOutcome, TracedBoth}
+
+-- what is equal to one thing
+only-one : {A : Type 0} (x : A) → Firm A (λ a. a ≡ x)
+only-one x a b p q = p ∙ sym q
+
+pub firm-no-unit : Firm ItsState NoUnit
+firm-no-unit = only-one noUnit
+
+pub firm-configure : (k : ItsConfig) → Firm Configured (Configures k)
+firm-configure k = only-one (configure k)
+
+pub firm-read : (u : ItsState) (offset width : ℕ) → Firm ReadAnswer (Reads u offset width)
+firm-read u offset width = only-one (read u offset width)
+
+pub firm-translate : (u : ItsState) (d : ItsDeviceId) (e : EventId) → Firm TranslateAnswer (Translates u d e)
+firm-translate u d e = only-one (translate u d e)
+
+-- the answer with the unit by the first equation, the row by the second
+pub firm-write : (w : Window) (row : List ItsAction) (u : ItsState) (offset width value : ℕ) → Firm Outcome (WritesBoth w row u offset width value)
+firm-write w row u offset width value a b p q = ap₂ (λ r left. record { written = r; row = left }) (p .0 ∙ sym (q .0)) (p .1 ∙ sym (q .1))
+
+-- the same write, with the first records of a row that is lent to it
+abbrev lent : Window → ℕ → ItsState → ℕ → ℕ → ℕ → WrittenRow
+lent w room u offset width value =
+    besideRow (write w (take room lentRow) u offset width value .written) (write w (take room lentRow) u offset width value .row ++ drop room lentRow)
+
+pub firm-write-lent : (w : Window) (room : ℕ) (u : ItsState) (offset width value : ℕ) → Firm WrittenRow (WritesLent w room u offset width value)
+firm-write-lent w room u offset width value = only-one (lent w room u offset width value)
+
+-- so what holds of every write holds of it
+pub lent-writes : (w : Window) (room : ℕ) (u : ItsState) (offset width value : ℕ) (r : WrittenRow) → WritesLent w room u offset width value r →
+    (left : List ItsAction) × (Writes w (take room lentRow) u offset width value (record { unit = r .unit; answer = r .answer }) left × (r .row ≡ left ++ drop room lentRow))
+lent-writes w room u offset width value r e =
+    (write w (take room lentRow) u offset width value .row, ((ap (λ z. record { unit = z .unit; answer = z .answer }) e, refl), ap (λ z. z .row) e))
+
+-- the number by the first equation, the output by the second
+pub firm-trace : (trace out : List ℕ) → Firm TraceOutcome (TracedBoth trace out)
+firm-trace trace out a b p q = ap₂ (λ n left. record { number = n; output = left }) (p .0 ∙ sym (q .0)) (p .1 ∙ sym (q .1))
+
+-- THE THEOREMS.
+pub firm-entries : OfEveryEntry Firm
+firm-entries =
+    record { «no_unit» = firm-no-unit; configure = firm-configure; «read_its» = firm-read; «write_its» = firm-write; «write_lent» = firm-write-lent; translate = firm-translate; «its_trace» = firm-trace }
+
+pub answered-entries : OfEveryEntry Answered
+answered-entries =
+    record {
+      «no_unit» = (noUnit, refl);
+      configure = λ k. (configure k, refl);
+      «read_its» = λ u offset width. (read u offset width, refl);
+      «write_its» = λ w row u offset width value. (write w row u offset width value, (refl, refl));
+      «write_lent» = λ w room u offset width value. (lent w room u offset width value, refl);
+      translate = λ u d e. (translate u d e, refl);
+      «its_trace» = λ trace out. (record { number = returned trace out; output = outputAfter trace out }, (refl, refl));
+    }

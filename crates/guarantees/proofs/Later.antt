@@ -1,0 +1,88 @@
+-- AFTER A WRITE THAT WAS REFUSED BECAUSE OF THE COMMAND AT CREADR a later write tries it again, and with the same window a CTLR write that enables is
+-- refused in the same way.
+-- Assumes nothing.
+use Prim.Native.Nat.{ℕ, _-_, _≤_}
+use native.Mathlib.Omega.{arith}
+use mathlib.Core.Path.{_≡_, refl, sym, ap, ap₂, _∙_}
+use mathlib.Core.Bool.{true, _&&_, _||_}
+use mathlib.Core.List.{List}
+use lib.ListN.{length}
+use lib.Dec.{leb, eqb}
+use borrow.Author.Tests.{le-leb, eqb-true}
+use Rattle.model.specs.declared.ItsConfig.{ItsConfig}
+use Rattle.model.specs.declared.ItsState.{ItsState}
+use Rattle.model.specs.declared.ItsAction.{ItsAction}
+use Rattle.model.specs.declared.Register.the-variants.{Ctlr}
+use Rattle.model.specs.declared.Refusal.{Refusal}
+use Rattle.model.specs.declared.Verdict.the-variants.{Accepted}
+use Rattle.model.specs.declared.WriteAnswer.the-variants.{NotTaken}
+use Rattle.model.specs.declared.Written.{Written}
+use Rattle.model.specs.Arm.{GITS-CTLR, LPI-base}
+use Rattle.model.specs.Config.{processorsOf, noneTwice, soundConfig, soundUnit}
+use Rattle.model.specs.Queue.{Window, withRegisters}
+use Rattle.model.specs.Register.{registerAt, withEnabled, enables}
+use Rattle.model.specs.Entry.{checkAccess, checkWrite}
+use Rattle.model.specs.Demand3.{registersStored, letsRun}
+use Rattle.model.proofs.Cases.{cases, and-left, and-right}
+use Rattle.its.specs.Contracts.{Writes}
+use Rattle.guarantees.specs.Refusals.{at-command, givenAt}
+use Rattle.guarantees.specs.Retries.{Tries, TriedLater}
+use Rattle.guarantees.proofs.Leaves.{stopped-at}
+use Rattle.guarantees.proofs.Again.{tries-again}
+
+-- A CTLR write to a sound unit, with a row that has room.
+
+-- a frame has room for it
+four-fit : (size : ℕ) → (eqb size 65536 || eqb size 131072) ≡ true → leb 4 size ≡ true
+four-fit size h = cases (eqb size 65536) (λ y. rw (eqb-true size 65536 y)) (λ n. rw (eqb-true size 131072 (rw n at h)))
+
+frame-sound : (k : ItsConfig) → soundConfig k ≡ true → leb 4 (k .«frame_size») ≡ true
+unfolding soundConfig
+frame-sound k h =
+    let limit = leb LPI-base (k .«lpi_limit») && leb (k .«lpi_limit») 16777215 in
+    let budget = leb 1 (k .«command_budget») && leb (k .«command_budget») 1024 in
+    let frame = eqb (k .«frame_size») 65536 || eqb (k .«frame_size») 131072 in
+    let processors = (leb 1 (k .«processor_count») && leb (k .«processor_count») 16) && noneTwice (processorsOf k) in
+    four-fit (k .«frame_size») (and-left frame processors (and-right budget (frame && processors) (and-right limit (budget && (frame && processors)) h)))
+
+ctlr-taken : (k : ItsConfig) → soundConfig k ≡ true → checkAccess k GITS-CTLR 4 ≡ Accepted
+unfolding checkAccess registerAt
+ctlr-taken k h = rw (frame-sound k h)
+
+at-ctlr : registerAt GITS-CTLR ≡ Ctlr
+unfolding registerAt
+at-ctlr = refl
+
+module _ (u : ItsState) (row : List ItsAction) (value : ℕ) (sound : soundUnit u ≡ true) (room : u .config .«command_budget» ≤ length row) where
+  accepted : checkWrite u row GITS-CTLR 4 ≡ Accepted
+  accepted = rw (sound, le-leb (u .config .«command_budget») (length row) room) (ctlr-taken (u .config) (and-left (soundConfig (u .config)) _ sound))
+
+  ctlr-stores : registersStored u row GITS-CTLR 4 value ≡ withEnabled (u .registers) (enables value)
+  ctlr-stores = rw (accepted, at-ctlr)
+
+  ctlr-lets-run : letsRun u row GITS-CTLR 4 value ≡ true
+  ctlr-lets-run = rw (accepted, at-ctlr)
+
+  -- in an enabled unit, where it enables, all registers are as they were
+  ctlr-same : u .registers .enabled ≡ true → enables value ≡ true → registersStored u row GITS-CTLR 4 value ≡ u .registers
+  ctlr-same on again = ctlr-stores ∙ ap (withEnabled (u .registers)) (again ∙ sym on)
+
+-- THE THEOREM.
+module _ (w : Window) (row : List ItsAction) (u : ItsState) (offset width value : ℕ) (v : Written) (left : List ItsAction) (e : Writes w row u offset width value v left) where
+  pub tried-later : (why : Refusal) → givenAt why ≡ at-command → (opcode at done : ℕ) → v .answer ≡ NotTaken why opcode at done → TriedLater w v why opcode at
+  tried-later why place opcode at done h =
+      let p = stopped-at w row u offset width value v left e why place opcode at done h in
+      record {
+        reader = sym (p .offset);
+        again = λ w′ row′ offset′ width′ value′ r left′ e′ t. tries-again w′ row′ (v .unit) offset′ width′ value′ r left′ e′ t;
+        same = λ row′ value′ r left′ e′ room enabling.
+            let same = ctlr-same (v .unit) row′ value′ (p .sound) room (p .enabled) enabling in
+            let t : Tries (v .unit) row′ GITS-CTLR 4 value′ = record {
+              lets-run = ctlr-lets-run (v .unit) row′ value′ (p .sound) room;
+              enabled = rw same (p .enabled);
+              waits = rw same (omega (arith, p .waits, p .waited));
+              within = rw same (omega (arith, p .waits, p .within));
+            } in
+            let (answer, row-same) = tries-again w row′ (v .unit) GITS-CTLR 4 value′ r left′ e′ t .refuses why opcode (p .fails) in
+            (answer ∙ ap₂ (λ s a. record { unit = withRegisters (v .unit) s; answer = NotTaken why opcode a 0 }) same (sym (p .offset)), row-same);
+      }

@@ -1,0 +1,13 @@
+pub mod Firmness
+pub mod InForce
+pub mod Reasons
+pub mod Hands
+pub mod Ways
+pub mod Remaining
+pub mod Stopped
+pub mod Leaves
+pub mod Unsound
+pub mod Counts
+pub mod Again
+pub mod Later
+pub mod All

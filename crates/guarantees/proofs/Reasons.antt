@@ -1,0 +1,154 @@
+-- Which refusals come from where: a command that stays is refused for a command's reason, with its opcode; an access that fails its checks with 2 or
+-- 3; a write before that with 1 or 10.
+-- Assumes nothing.
+use Prim.Native.Nat.{ℕ}
+use native.Mathlib.Omega.{arith}
+use mathlib.Core.Path.{_≡_, refl, subst}
+use mathlib.Core.Bool.{Bool, true, false, not}
+use mathlib.Core.List.{List}
+use mathlib.Core.Option.{Option, none, some}
+use mathlib.Core.Logic.{_⊎_, inl, inr}
+use lib.ListN.{length}
+use lib.Dec.{leb}
+use Rattle.model.specs.declared.ItsDeviceId.{ItsDeviceId}
+use Rattle.model.specs.declared.EventId.{EventId}
+use Rattle.model.specs.declared.CollectionId.{CollectionId}
+use Rattle.model.specs.declared.LpiId.{LpiId}
+use Rattle.model.specs.declared.ItsConfig.{ItsConfig}
+use Rattle.model.specs.declared.ItsState.{ItsState}
+use Rattle.model.specs.declared.ItsAction.{ItsAction}
+use Rattle.model.specs.declared.Command.{Command}
+use Rattle.model.specs.declared.Command.the-variants.{Mapd, Mapc, Mapti, Mapi, Movi, Int, Clear, Discard, Inv, Invall, Sync}
+use Rattle.model.specs.declared.Decoded.{Decoded}
+use Rattle.model.specs.declared.Decoded.the-variants.{Known, Unknown}
+use Rattle.model.specs.declared.Refusal.{Refusal}
+use Rattle.model.specs.declared.Refusal.the-variants.{Unsound, RowTooShort, InvalidAccess, Identification, BaseZero, WriterRefused, BudgetExceeded, NotInWindow, OpcodeUnknown, LpiOutOfRange, DeviceUnmapped, EventBeyondBits, CollectionUnmapped, PairUnmapped, ProcessorUnlisted, ResourceNotFound, TableFull, LineDoesNotFit}
+use Rattle.model.specs.declared.Verdict.{Verdict}
+use Rattle.model.specs.declared.Verdict.the-variants.{Accepted, Refused}
+use Rattle.model.specs.Choose.{_or_then_, ifFound}
+use Rattle.model.specs.Refusal.{numberOf}
+use Rattle.model.specs.Arm.{isIdentification}
+use Rattle.model.specs.Keys.{eventAsLpi}
+use Rattle.model.specs.Config.{listed, soundUnit}
+use Rattle.model.specs.Decode.{opcodeOf, decode}
+use Rattle.model.specs.Step.{lpiInRange, deviceMapped, eventFits, collectionMapped, pairMapped, pairTranslates, roomForDevice, roomForCollection, roomForPair, checkMapping, check}
+use Rattle.model.specs.Queue.{Window, commandAt, commandAddress, Turn, passes, stays, judged, turnOn, turn}
+use Rattle.model.specs.Register.{registerAt, takesWidth}
+use Rattle.model.specs.Entry.{inFrame, checkAccess, checkRead, checkWrite}
+use Rattle.guarantees.specs.Refusals.{at-entry, at-command, givenAt}
+
+-- if it is a refusal, it is one of which P holds
+abbrev pub Only : (Refusal → Type 0) → Verdict → Type 0
+Only P Accepted = Unit {0}
+Only P (Refused why) = P why
+
+-- a check with such a refusal, and others after it
+check-only : (P : Refusal → Type 0) (b : Bool) (why : Refusal) (k : Verdict) → P why → Only P k → Only P (b or Refused why then k)
+check-only P true why k h i = i
+check-only P false why k h i = h
+
+-- A command.
+
+abbrev Commands : Refusal → Type 0
+Commands why = givenAt why ≡ at-command
+
+module _ (u : ItsState) where
+  mapping-only : (d : ItsDeviceId) (e : EventId) (l : LpiId) (c : CollectionId) → Only Commands (checkMapping u d e l c)
+  unfolding checkMapping
+  mapping-only d e l c =
+      check-only Commands (lpiInRange (u .config) l) LpiOutOfRange _ refl
+      (check-only Commands (deviceMapped u d) DeviceUnmapped _ refl
+      (check-only Commands (eventFits u d e) EventBeyondBits _ refl
+      (check-only Commands (collectionMapped u c) CollectionUnmapped _ refl
+      (check-only Commands (roomForPair u d e) TableFull _ refl tt))))
+
+  command-only : (x : Command) → Only Commands (check u x)
+  command-only (Mapd d bits true) = check-only Commands (roomForDevice u d) TableFull _ refl tt
+  command-only (Mapd d bits false) = tt
+  command-only (Mapc c p true) =
+      check-only Commands (listed (u .config) p) ProcessorUnlisted _ refl
+      (check-only Commands (roomForCollection u c) TableFull _ refl tt)
+  command-only (Mapc c p false) = tt
+  command-only (Mapti d e l c) = mapping-only d e l c
+  command-only (Mapi d e c) = mapping-only d e (eventAsLpi e) c
+  command-only (Movi d e c) =
+      check-only Commands (collectionMapped u c) CollectionUnmapped _ refl
+      (check-only Commands (pairMapped u d e) PairUnmapped _ refl tt)
+  command-only (Int d e) = check-only Commands (pairTranslates u d e) ResourceNotFound _ refl tt
+  command-only (Clear d e) = check-only Commands (pairTranslates u d e) ResourceNotFound _ refl tt
+  command-only (Discard d e) = check-only Commands (pairMapped u d e) PairUnmapped _ refl tt
+  command-only (Inv d e) = check-only Commands (pairMapped u d e) PairUnmapped _ refl tt
+  command-only (Invall c) = check-only Commands (collectionMapped u c) CollectionUnmapped _ refl tt
+  command-only Sync = tt
+
+  -- one that stays, with the opcode told
+  abbrev Stays : ℕ → Turn → Type 0
+  Stays told (passes x) = Unit {0}
+  Stays told (stays why opcode) = (givenAt why ≡ at-command) × (opcode ≡ told)
+
+  stays-verdict : (v : Verdict) (x : Command) (opcode : ℕ) → Only Commands v → Stays opcode (judged v x opcode)
+  stays-verdict Accepted x opcode h = tt
+  stays-verdict (Refused why) x opcode h = (h, refl)
+
+  stays-decoded : (k : Decoded) (opcode : ℕ) → Stays opcode (turnOn u opcode k)
+  stays-decoded (Known x) opcode = stays-verdict (check u x) x opcode (command-only x)
+  stays-decoded (Unknown n) opcode = (refl, refl)
+
+  stays-words : (o : Option (List ℕ)) → Stays (ifFound o opcodeOf 0) (ifFound o (λ ws. turnOn u (opcodeOf ws) (decode ws)) (stays NotInWindow 0))
+  stays-words none = (refl, refl)
+  stays-words (some ws) = stays-decoded (decode ws) (opcodeOf ws)
+
+  pub staying : (w : Window) (why : Refusal) (opcode : ℕ) → turn w u ≡ stays why opcode →
+      (givenAt why ≡ at-command) × (opcode ≡ ifFound (commandAt w (commandAddress (u .registers) (u .registers .creadr))) opcodeOf 0)
+  unfolding turn
+  staying w why opcode h =
+      let there = commandAt w (commandAddress (u .registers) (u .registers .creadr)) in
+      subst (Stays (ifFound there opcodeOf 0)) h (stays-words there)
+
+-- the reasons with the number 7
+pub seven : (why : Refusal) → numberOf why ≡ 7 → (why ≡ WriterRefused) ⊎ (givenAt why ≡ at-command)
+seven Unsound h = absurd (omega arith)
+seven RowTooShort h = absurd (omega arith)
+seven InvalidAccess h = absurd (omega arith)
+seven Identification h = absurd (omega arith)
+seven BaseZero h = absurd (omega arith)
+seven WriterRefused h = inl refl
+seven BudgetExceeded h = absurd (omega arith)
+seven NotInWindow h = inr refl
+seven OpcodeUnknown h = inr refl
+seven LpiOutOfRange h = inr refl
+seven DeviceUnmapped h = inr refl
+seven EventBeyondBits h = inr refl
+seven CollectionUnmapped h = inr refl
+seven PairUnmapped h = inr refl
+seven ProcessorUnlisted h = inr refl
+seven ResourceNotFound h = inr refl
+seven TableFull h = inr refl
+seven LineDoesNotFit h = absurd (omega arith)
+
+-- An access.
+
+module _ (P : Refusal → Type 0) (two : P InvalidAccess) (three : P Identification) where
+  access-only : (k : ItsConfig) (offset width : ℕ) → Only P (checkAccess k offset width)
+  unfolding checkAccess
+  access-only k offset width =
+      check-only P (inFrame k offset width) InvalidAccess _ two
+      (check-only P (not (isIdentification offset)) Identification _ three
+      (check-only P (takesWidth (registerAt offset) width) InvalidAccess _ two tt))
+
+-- a read is refused with 1, 2 or 3
+abbrev pub OfRead : Refusal → Type 0
+OfRead why = (why ≡ Unsound) ⊎ ((why ≡ InvalidAccess) ⊎ (why ≡ Identification))
+
+pub read-only : (u : ItsState) (offset width : ℕ) → Only OfRead (checkRead u offset width)
+read-only u offset width =
+    check-only OfRead (soundUnit u) Unsound _ (inl refl) (access-only OfRead (inr (inl refl)) (inr (inr refl)) (u .config) offset width)
+
+-- the checks of a write refuse before anything is stored
+abbrev pub Entries : Refusal → Type 0
+Entries why = givenAt why ≡ at-entry
+
+pub write-only : (u : ItsState) (row : List ItsAction) (offset width : ℕ) → Only Entries (checkWrite u row offset width)
+write-only u row offset width =
+    check-only Entries (soundUnit u) Unsound _ refl
+    (check-only Entries (leb (u .config .«command_budget») (length row)) RowTooShort _ refl (access-only Entries refl refl (u .config) offset width))

@@ -1,0 +1,7 @@
+pub mod Firm
+pub mod MappingsInForce
+pub mod Handed
+pub mod DoneCount
+pub mod Refusals
+pub mod Retries
+pub mod Theorems

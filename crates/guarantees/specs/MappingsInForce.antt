@@ -1,0 +1,77 @@
+-- DEMAND 3 over the contracts of the public entries: from a unit that was configured, whatever accesses follow, a device and event translate exactly
+-- when the commands carried out so far put that pair in force, and to the LPI and processor that those commands give. Nothing here speaks of a
+-- definition of an access: each access is any answer that meets the entry's contract (crates/its/specs/Contracts.antt).
+-- Assumes nothing.
+use Prim.Native.Nat.{ℕ}
+use mathlib.Core.Path.{_≡_}
+use mathlib.Core.Bool.{true}
+use mathlib.Core.List.{List, [], _++_}
+use mathlib.Core.Logic.{_↔_}
+use Rattle.model.specs.declared.ItsDeviceId.{ItsDeviceId}
+use Rattle.model.specs.declared.EventId.{EventId}
+use Rattle.model.specs.declared.CollectionId.{CollectionId}
+use Rattle.model.specs.declared.LpiId.{LpiId}
+use Rattle.model.specs.declared.GicVcpuId.{GicVcpuId}
+use Rattle.model.specs.declared.ItsConfig.{ItsConfig}
+use Rattle.model.specs.declared.ItsState.{ItsState}
+use Rattle.model.specs.declared.ItsAction.{ItsAction}
+use Rattle.model.specs.declared.Command.{Command}
+use Rattle.model.specs.declared.Refusal.{Refusal}
+use Rattle.model.specs.declared.Refusal.the-variants.{Unsound, ResourceNotFound}
+use Rattle.model.specs.declared.Verdict.the-variants.{Accepted}
+use Rattle.model.specs.declared.ReadAnswer.{ReadAnswer}
+use Rattle.model.specs.declared.ReadAnswer.the-variants.{NoValue}
+use Rattle.model.specs.declared.TranslateAnswer.{TranslateAnswer}
+use Rattle.model.specs.declared.TranslateAnswer.the-variants.{Delivered, NotDelivered}
+use Rattle.model.specs.declared.Configured.{Configured}
+use Rattle.model.specs.declared.Written.{Written}
+use Rattle.model.specs.Refusal.{translateNumbers, writeNumbers}
+use Rattle.model.specs.Keys.{delivery}
+use Rattle.model.specs.Config.{soundUnit}
+use Rattle.model.specs.Queue.{Window}
+use Rattle.model.specs.Paragraph.{InForce}
+use Rattle.model.specs.Promise.{SentTo, Backed}
+use Rattle.model.specs.Reached.{commandsPassed}
+use Rattle.model.specs.Demand3.{registersStored, storesBase, letsRun, WriteKeeps}
+use Rattle.its.specs.Contracts.{Configures, Reads, Writes, Translates}
+
+-- `Led k u h`: from a unit configured with k, some calls, refused ones included, led to the unit u, and the commands carried out are h, the last
+-- one first. Every answer is one that meets the entry's contract.
+pub data Led (k : ItsConfig) : ItsState → List Command → Type 0 where
+  -- an accepted configuration, and no command yet
+  begins : (c : Configured) → Configures k c → c .verdict ≡ Accepted → Led k (c .unit) []
+  -- a read leaves the unit as it is
+  a-read : {u : ItsState} {h : List Command} → Led k u h → (offset width : ℕ) (r : ReadAnswer) → Reads u offset width r → Led k u h
+  -- and so does a translation
+  a-translation : {u : ItsState} {h : List Command} → Led k u h → (d : ItsDeviceId) (e : EventId) (r : TranslateAnswer) → Translates u d e r → Led k u h
+  -- a write, with any window and any row, leads to the unit that it answers. The commands that it adds are read from the window at the old CREADR
+  -- and on, as many as the answer says were done
+  a-write : {u : ItsState} {h : List Command} → Led k u h → (w : Window) (row : List ItsAction) (offset width value : ℕ) (r : Written) (left : List ItsAction) →
+      Writes w row u offset width value r left → Led k (r .unit) (commandsPassed w (u .registers) (writeNumbers (r .answer) .done) ++ h)
+
+-- THE DEMAND, of the unit u to which the calls led and of the history h.
+pub record MappingsInForce (k : ItsConfig) (u : ItsState) (h : List Command) : Type 0 where
+  -- the configuration never changes
+  pub config : u .config ≡ k
+  -- configuration and ring are sound
+  pub sound : soundUnit u ≡ true
+  -- a pair translates exactly where the commands of the history send it, and to the LPI and processor that they give
+  pub translates : (d : ItsDeviceId) (e : EventId) (r : TranslateAnswer) → Translates u d e r →
+      (l : LpiId) (p : GicVcpuId) → (r ≡ Delivered (delivery l p)) ↔ SentTo h d e l p
+  -- it is refused with 8 exactly where the pair is not in force
+  pub nowhere : (d : ItsDeviceId) (e : EventId) (r : TranslateAnswer) → Translates u d e r →
+      (r ≡ NotDelivered ResourceNotFound) ↔ ((l : LpiId) (c : CollectionId) → InForce h d e l c → ⊥)
+  -- a translation has no other refusal, so never 1
+  pub only-8 : (d : ItsDeviceId) (e : EventId) (r : TranslateAnswer) → Translates u d e r → (why : Refusal) → r ≡ NotDelivered why → why ≡ ResourceNotFound
+  -- and the numbers of a refused one are 8, 0, 0
+  pub numbers : (d : ItsDeviceId) (e : EventId) (r : TranslateAnswer) → Translates u d e r →
+      (why : Refusal) → r ≡ NotDelivered why → translateNumbers r ≡ record { refusal = 8; lpi = 0; processor = 0 }
+  -- of each pair in force the LPI is in range, device and collection are mapped, and the processor is listed
+  pub backed : (d : ItsDeviceId) (e : EventId) (l : LpiId) (c : CollectionId) → InForce h d e l c → Backed k h d l c
+  -- a read never answers 1
+  pub reads : (offset width : ℕ) (r : ReadAnswer) → Reads u offset width r → r ≡ NoValue Unsound → ⊥
+  -- every write, whatever the window, the row, the offset, the width and the value: the configuration stays; every command passed lay whole in the
+  -- window, is of one of the kinds and passed its checks; CREADR passed exactly those; 1 is never answered (crates/model/specs/Demand3.antt)
+  pub writes : (w : Window) (row : List ItsAction) (offset width value : ℕ) (r : Written) (left : List ItsAction) → Writes w row u offset width value r left →
+      WriteKeeps w u (registersStored u row offset width value) (storesBase u row offset width value) (letsRun u row offset width value)
+      (record { written = r; row = left })

@@ -1,0 +1,78 @@
+-- ALL THAT IS GUARANTEED of the public entries, in one place: each field is a theorem over their contracts (crates/its/specs/Contracts.antt), for all
+-- inputs. What a theorem concludes is said in the file that it is taken from. proofs/All.antt holds them all.
+-- Assumes nothing.
+use Prim.Native.Nat.{ℕ}
+use mathlib.Core.Path.{_≡_}
+use mathlib.Core.Bool.{true, false}
+use mathlib.Core.List.{List, _++_}
+use lib.ListN.{take, drop}
+use Rattle.model.specs.declared.ItsDeviceId.{ItsDeviceId}
+use Rattle.model.specs.declared.EventId.{EventId}
+use Rattle.model.specs.declared.ItsConfig.{ItsConfig}
+use Rattle.model.specs.declared.ItsState.{ItsState}
+use Rattle.model.specs.declared.ItsAction.{ItsAction}
+use Rattle.model.specs.declared.Command.{Command}
+use Rattle.model.specs.declared.Refusal.{Refusal}
+use Rattle.model.specs.declared.Refusal.the-variants.{Unsound}
+use Rattle.model.specs.declared.Verdict.the-variants.{Refused}
+use Rattle.model.specs.declared.ReadAnswer.{ReadAnswer}
+use Rattle.model.specs.declared.WriteAnswer.the-variants.{NotTaken}
+use Rattle.model.specs.declared.TranslateAnswer.{TranslateAnswer}
+use Rattle.model.specs.declared.Configured.{Configured}
+use Rattle.model.specs.declared.Written.{Written}
+use Rattle.model.specs.Config.{soundUnit}
+use Rattle.model.specs.Queue.{Window}
+use Rattle.model.specs.Trace.{lentRow}
+use Rattle.model.specs.Demand3.{registersStored, storesBase, letsRun, WriteKeeps}
+use Rattle.its.specs.declared.WrittenRow.{WrittenRow}
+use Rattle.its.specs.Contracts.{NoUnit, Configures, Reads, Writes, WritesLent, Translates}
+use Rattle.guarantees.specs.Firm.{Answered, Firm, OfEveryEntry}
+use Rattle.guarantees.specs.MappingsInForce.{Led, MappingsInForce}
+use Rattle.guarantees.specs.Handed.{RowKeeps}
+use Rattle.guarantees.specs.DoneCount.{DoneCount}
+use Rattle.guarantees.specs.Refusals.{at-command, givenAt, RefusalLeaves, ReadLeaves, TranslateLeaves, AnswersOne}
+use Rattle.guarantees.specs.Retries.{Tries, TriesAgain, TriedLater}
+
+-- of every call of `write_its`, with any window, row, unit, offset, width and value, and of what it answers and leaves in the row
+abbrev pub OfEveryWrite : (Window → List ItsAction → ItsState → ℕ → ℕ → ℕ → Written → List ItsAction → Type 0) → Type 0
+OfEveryWrite P =
+    (w : Window) (row : List ItsAction) (u : ItsState) (offset width value : ℕ) (r : Written) (left : List ItsAction) →
+    Writes w row u offset width value r left → P w row u offset width value r left
+
+pub record Theorems : Type 0 where
+  -- DEMAND 3 (MappingsInForce): of every unit to which calls led from an accepted configuration
+  pub mappings-in-force : {k : ItsConfig} {u : ItsState} {h : List Command} → Led k u h → MappingsInForce k u h
+  -- FIRMNESS (Firm): of every public entry, at all inputs, an answer meets the contract
+  pub answered-entries : OfEveryEntry Answered
+  -- and any second one is equal to it
+  pub firm-entries : OfEveryEntry Firm
+  -- `write_lent` is `write_its` with the first `room` of the 1,024 records of a row: what holds of every write holds of it, and the other records stay
+  pub lent-writes : (w : Window) (room : ℕ) (u : ItsState) (offset width value : ℕ) (r : WrittenRow) → WritesLent w room u offset width value r →
+      (left : List ItsAction) × (Writes w (take room lentRow) u offset width value (record { unit = r .unit; answer = r .answer }) left × (r .row ≡ left ++ drop room lentRow))
+  -- what demand 3 says of a write holds on every sound unit, also one that was built by hand (model: Demand3)
+  pub write-keeps : OfEveryWrite (λ w row u offset width value r left. soundUnit u ≡ true →
+      WriteKeeps w u (registersStored u row offset width value) (storesBase u row offset width value) (letsRun u row offset width value)
+      (record { written = r; row = left }))
+  -- DONE is CREADR's advance, on every sound unit (DoneCount)
+  pub done-count : OfEveryWrite (λ w row u offset width value r left. soundUnit u ≡ true →
+      DoneCount (u .registers) (registersStored u row offset width value) (storesBase u row offset width value) r)
+  -- THE ROW holds the actions of the commands carried out (Handed)
+  pub row-keeps : OfEveryWrite (λ w row u offset width value r left. RowKeeps w row u (registersStored u row offset width value) r left)
+  -- WHAT A REFUSED WRITE LEAVES, number by number (Refusals)
+  pub refusal-leaves : OfEveryWrite RefusalLeaves
+  -- what a refused read leaves (Refusals)
+  pub read-leaves : (u : ItsState) (offset width : ℕ) (r : ReadAnswer) → Reads u offset width r → ReadLeaves r
+  -- what a refused translation leaves (Refusals)
+  pub translate-leaves : (u : ItsState) (d : ItsDeviceId) (e : EventId) (r : TranslateAnswer) → Translates u d e r → TranslateLeaves r
+  -- 1 TO EVERYTHING (Refusals): an unsound unit
+  pub unsound-answers-1 : (u : ItsState) → soundUnit u ≡ false → AnswersOne u
+  -- the unit that stands where none was configured
+  pub no-unit-answers-1 : (u : ItsState) → NoUnit u → AnswersOne u
+  -- and the one that a refused configuration gives; its refusal is 1
+  pub refused-configuration : (k : ItsConfig) (c : Configured) → Configures k c → (why : Refusal) → c .verdict ≡ Refused why → (why ≡ Unsound) × AnswersOne (c .unit)
+  -- A LATER WRITE TRIES AGAIN (Retries): one that runs the queue begins with the command on which CREADR stands
+  pub tries-again : OfEveryWrite (λ w row u offset width value r left. Tries u row offset width value →
+      TriesAgain w row u (registersStored u row offset width value) r left)
+  -- after a write that was refused because of that command
+  pub tried-later : OfEveryWrite (λ w row u offset width value r left.
+      (why : Refusal) → givenAt why ≡ at-command → (opcode at done : ℕ) → r .answer ≡ NotTaken why opcode at done → TriedLater w r why opcode at)
