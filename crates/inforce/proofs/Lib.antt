@@ -1,0 +1,5 @@
+pub mod Left
+pub mod Walking
+pub mod Leading
+pub mod Printing
+pub mod AtEnd

@@ -1,0 +1,78 @@
+-- The mappings in force as a unit holds them, in the order of its tables. proofs/InForce.antt shows that they are those of the history.
+-- Assumes nothing.
+use Prim.Native.Nat.{ℕ, zero, suc}
+use mathlib.Core.Bool.{Bool, true, false, _&&_}
+use mathlib.Core.List.{List, [], _∷_}
+use lib.Dec.{eqb}
+use lib.ListN.{length, getD}
+use Rattle.model.specs.declared.ItsDeviceId.{ItsDeviceId}
+use Rattle.model.specs.declared.EventId.{EventId}
+use Rattle.model.specs.declared.CollectionId.{CollectionId}
+use Rattle.model.specs.declared.LpiId.{LpiId}
+use Rattle.model.specs.declared.GicVcpuId.{GicVcpuId}
+use Rattle.model.specs.declared.ItsDevice.{ItsDevice}
+use Rattle.model.specs.declared.Translation.{Translation}
+use Rattle.model.specs.declared.ItsState.{ItsState}
+use Rattle.model.specs.declared.Place.{Place}
+use Rattle.model.specs.Choose.{if_then_else_, ifFound}
+use Rattle.model.specs.Table.{placeOf}
+use Rattle.model.specs.Keys.{isDevice, isPair, noDevice, noTranslation}
+use Rattle.model.specs.Step.{collectionOf}
+use Rattle.mappings.specs.declared.Mapping.{Mapping}
+
+-- a pair in force, with its LPI, its collection and its processor
+abbrev pub aMapping : ItsDeviceId → EventId → LpiId → CollectionId → GicVcpuId → Mapping
+aMapping d e l c p = record { device = d; event = e; lpi = l; collection = c; target = p; «in_force» = true }
+
+-- none
+abbrev pub noMapping : Mapping
+noMapping =
+    record {
+      device = record { 0 = 0 };
+      event = record { 0 = 0 };
+      lpi = record { 0 = 0 };
+      collection = record { 0 = 0 };
+      target = record { 0 = 0 };
+      «in_force» = false;
+    }
+
+-- Record i counts if the search for its own key finds it: then it is used, and no lower-numbered one has the key.
+abbrev pub counts : Place → ℕ → Bool
+counts p i = p .found && eqb (p .at) i
+
+-- where the pair of a record is
+abbrev pub placeOfPair : ItsState → Translation → Place
+placeOfPair u r = placeOf (isPair (r .device) (r .event)) (λ a. a .used) (u .translations)
+
+-- where the device of a record is
+abbrev pub placeOfDevice : ItsState → ItsDevice → Place
+placeOfDevice u r = placeOf (isDevice (r .device)) (λ a. a .used) (u .devices)
+
+-- what the record r, which is record i of the translations, stands for: a pair whose collection is mapped
+abbrev pub mappingOf : ItsState → ℕ → Translation → Mapping
+mappingOf u i r =
+    if counts (placeOfPair u r) i
+    then ifFound (collectionOf u (r .collection)) (λ k. aMapping (r .device) (r .event) (r .lpi) (r .collection) (k .target)) noMapping
+    else noMapping
+
+unfoldable pub mappingAt : ItsState → ℕ → Mapping
+mappingAt u i = mappingOf u i (getD (u .translations) i noTranslation)
+
+-- what the record r, which is record i of the devices, stands for
+abbrev pub deviceIn : ItsState → ℕ → ItsDevice → ItsDevice
+deviceIn u i r = if counts (placeOfDevice u r) i then r else noDevice
+
+unfoldable pub deviceAt : ItsState → ℕ → ItsDevice
+deviceAt u i = deviceIn u i (getD (u .devices) i noDevice)
+
+-- what stands at n places from the place i on, without what does not pass
+abbrev pub passing : {A : Type 0} → (A → Bool) → (ℕ → A) → ℕ → ℕ → List A
+passing pass at zero i = []
+passing pass at (suc n) i = if pass (at i) then at i ∷ passing pass at n (suc i) else passing pass at n (suc i)
+
+-- THE LIST of the mappings in force, and that of the mapped devices
+unfoldable pub mappingsOf : ItsState → List Mapping
+mappingsOf u = passing (λ m. m .«in_force») (mappingAt u) (length (u .translations)) 0
+
+unfoldable pub devicesOf : ItsState → List ItsDevice
+devicesOf u = passing (λ r. r .used) (deviceAt u) (length (u .devices)) 0
