@@ -27,7 +27,11 @@ for word in $(grep -o '`[^`]*`' "$table" | tr -d '`' | grep -E '^(proofs/)?[A-Z]
 done
 # `crate::function` stands in the crate's source
 for word in $(grep -o '`[a-z_]*::[a-z_0-9]*`' "$table" | tr -d '`' | sort -u); do
-    grep -Eqsr "pub fn ${word#*::}[<(]" "crates/${word%%::*}/src" || { echo "check-sentences: no function $word"; bad=1; }
+    grep -Eqsr "pub (extern \"C\" )?fn ${word#*::}[<(]" "crates/${word%%::*}/src" || { echo "check-sentences: no function $word"; bad=1; }
+done
+# `guarantees: name` is a field of the record of all theorems
+for name in $(grep -o '`guarantees: [a-z0-9-]*`' "$table" | tr -d '`' | sed 's/guarantees: //' | sort -u); do
+    grep -Eqs "^  pub $name :" crates/guarantees/specs/Theorems.antt || { echo "check-sentences: no theorem $name"; bad=1; }
 done
 for label in $(grep -o 'must-fail .*' "$table" | grep -o '`[^`]*`' | tr -d '`'); do
     ls crates/*/must-fail/"$label".edit >/dev/null 2>&1 || { echo "check-sentences: no must-fail edit $label"; bad=1; }

@@ -12,7 +12,10 @@ fail() {
 command -v rt >/dev/null 2>&1 || fail "rt, the command of the Rattle kit, is not on the PATH"
 rt fmt --check || fail "a file is not in rt's layout: run 'rt fmt'"
 tools/check-sentences.sh || fail "docs/SENTENCES.md does not fit the definitions"
+tools/check-guarantees.sh || fail "docs/GUARANTEES.md names something that is not there"
 tools/check-differences.sh || fail "docs/DIFFERENCES.md does not fit the recorded traces"
+tools/replay-files.sh || fail "the files beside the program replay do not fit its data"
+tools/check-visit.sh || fail "docs/SECOND-VISIT.md does not fit the recorded traces"
 tools/oracle.sh || fail "the published Rust does not answer as recorded"
 tools/definitions.sh || fail "the definitions do not answer as the Rust did"
 
@@ -26,6 +29,8 @@ verdict=$(tail -n 1 "$log")
 cp "$log" target/ci.log
 if [ "$status" -eq 0 ]; then
     tools/must-fail-reasons.sh || fail "a must-fail edit shows nothing"
+    # After rt ci, so that what the C call stands on is proved already.
+    tools/differential.sh || fail "the C call does not answer as the published Rust"
 fi
 echo "$verdict"
 exit "$status"
