@@ -1,4 +1,2 @@
 pub mod Among
-pub mod Places
-pub mod Plans
 pub mod Listed

@@ -1,9 +1,12 @@
-// Commands: decoded, and planned. A plan says what is to be stored, dropped or handed over; the one owner of the unit, the run of the queue,
-// does it, so that the unit is not handed from call to call.
+// Commands: decoded, planned, and carried out. A plan says what is to be stored, dropped or handed over. `execute` carries out one command, the
+// unit in and out; the run of the queue makes the same plan and stores it where the unit lies, so that the unit is not handed from call to call.
+use model::Applied;
+use model::Change;
 use model::CollectionId;
 use model::Command;
 use model::Decoded;
 use model::EventId;
+use model::Executed;
 use model::GicVcpuId;
 use model::ItsAction;
 use model::ItsCollection;
@@ -13,19 +16,21 @@ use model::ItsDeviceId;
 use model::ItsState;
 use model::LpiId;
 use model::Place;
+use model::Plan;
 use model::Refusal;
+use model::Seen;
+use model::Sought;
 use model::Translation;
 ghost use mathlib.Core.Path.{_≡_};
-ghost use Rattle.model.specs.Table.{firstAt};
-ghost use Rattle.model.specs.Keys.{sameProcessor, isPair};
-ghost use Rattle.model.specs.Choose.{if_then_else_};
-ghost use lib.Dec.{ltb};
+ghost use lib.ListN.{set};
+ghost use Rattle.model.specs.Table.{firstAt, dropAll};
+ghost use Rattle.model.specs.Keys.{sameProcessor, isPair, noTranslation};
 ghost use mathlib.Core.Bool.{not};
 ghost use mathlib.Core.List.{[], _∷_};
 ghost use Rattle.model.specs.Config.{listed};
 ghost use Rattle.model.specs.Decode.{decode as decodeOf};
-ghost use Rattle.model.specs.Step.{lpiInRange, eventBelow, dropDevice, dropCollection};
-ghost use Rattle.command.specs.Plan.{noPair, aPair, soughtBy, planMapd, planMapc, planMapping, planMovi, planAction, planDiscard, planInv, planInvall, planWith, changeOf, dropping, droppedBy};
+ghost use Rattle.model.specs.Step.{lpiInRange, eventBelow, withDevices, withCollections, withTranslations, dropDevice, dropCollection, execution};
+ghost use Rattle.model.specs.Plan.{freeFrom, placeSeen, seenSought, noPair, aPair, soughtBy, isSought, planMapd, planMapc, planMapping, planMovi, planAction, planDiscard, planInv, planInvall, planWith, appliedTo, comesTo, changeOf, dropping, discardFrom, droppedBy};
 
 // One of the kinds of commands, or unknown.
 pub fn decode(words: [u64; 4]) -> Decoded
@@ -88,33 +93,6 @@ pub fn decode(words: [u64; 4]) -> Decoded
         0x05 => Decoded::Known(Command::Sync),
         _ => Decoded::Unknown(opcode),
     }
-}
-
-// What a command comes to, before anything is stored: a refusal, what it changes, or what it hands over.
-pub enum Plan {
-    Refuse(Refusal),
-    Keep,
-    Act(ItsAction),
-    StoreDevice(usize, ItsDevice),
-    DropDevice(ItsDeviceId),
-    StoreCollection(usize, ItsCollection),
-    DropCollection(CollectionId),
-    StoreTranslation(usize, Translation),
-    DropPair,
-}
-
-// What the one search of the translations found: the place of the command's pair, and what stands there.
-pub struct Seen {
-    pub place: Place,
-    pub entry: Translation,
-}
-
-// The pair that a command names, and the four records with which the search for it begins, of 64 times four: a command that names no pair
-// searches none of them.
-pub struct Sought {
-    pub device: ItsDeviceId,
-    pub event: EventId,
-    pub from: usize,
 }
 
 fn no_pair() -> Sought
@@ -232,14 +210,14 @@ pub fn free_among(a: Translation, b: Translation, c: Translation, d: Translation
 
 // The search for a free record begins where the pair was not found.
 pub fn free_from(held: usize, from: usize) -> usize
-    ensures { λ r. ⌜ r ≡ (if ltb held 256 then 64 else from) ⌝ }
+    ensures { λ r. ⌜ r ≡ freeFrom held from ⌝ }
 {
     if held < 256 { 64 } else { from }
 }
 
 // The pair's own record, or the free one.
 pub fn place_seen(held: usize, free: usize) -> Place
-    ensures { λ r. ⌜ r ≡ record { at = if ltb held 256 then held else free; found = ltb held 256 } ⌝ }
+    ensures { λ r. ⌜ r ≡ placeSeen held free ⌝ }
 {
     if held < 256 {
         Place {
@@ -278,7 +256,7 @@ fn find_processor(processors: [GicVcpuId; 16], target: GicVcpuId) -> usize
     }
 }
 
-fn is_listed(config: ItsConfig, target: GicVcpuId) -> bool
+pub fn is_listed(config: ItsConfig, target: GicVcpuId) -> bool
     ensures { λ r. ⌜ r ≡ listed config target ⌝ }
 {
     let ps = config.processors;
@@ -288,7 +266,7 @@ fn is_listed(config: ItsConfig, target: GicVcpuId) -> bool
 }
 
 // Event below 2^bits.
-fn event_below(event_bits: u8, event: EventId) -> bool
+pub fn event_below(event_bits: u8, event: EventId) -> bool
     ensures { λ r. ⌜ r ≡ eventBelow «event_bits» event ⌝ }
 {
     if 32 <= event_bits {
@@ -555,24 +533,6 @@ pub fn plan_command(
     }
 }
 
-// What the owner of the unit does about a plan: whether it refuses, and why; whether it hands over an action, and which; whether it drops a
-// device or a collection, or the pair; and the record that it stores in each table, with its place, which is beyond the table where nothing
-// is stored.
-pub struct Change {
-    pub refuses: bool,
-    pub why: Refusal,
-    pub acts: bool,
-    pub action: ItsAction,
-    pub drops: bool,
-    pub discards: bool,
-    pub device_at: usize,
-    pub device: ItsDevice,
-    pub collection_at: usize,
-    pub collection: ItsCollection,
-    pub pair_at: usize,
-    pub pair: Translation,
-}
-
 fn no_change() -> Change
     ensures { λ r. ⌜ r ≡ changeOf Plan.Keep ⌝ }
 {
@@ -725,7 +685,7 @@ fn drop_collection(unit: ItsState, collection: CollectionId) -> ItsState
 
 // Where the owner of the unit begins to drop the pair: at the first of its records.
 pub fn discard_from(discards: bool, held: usize) -> usize
-    ensures { λ r. ⌜ r ≡ (if discards then held else 256) ⌝ }
+    ensures { λ r. ⌜ r ≡ discardFrom discards held ⌝ }
 {
     if discards { held } else { 256 }
 }
@@ -744,5 +704,129 @@ pub fn drop_planned(unit: ItsState, p: Plan) -> ItsState
         Plan::DropCollection(collection) => drop_collection(unit, collection),
         Plan::StoreTranslation(_, _) => unit,
         Plan::DropPair => unit,
+    }
+}
+
+// The one search of the translations: the place of the pair that is sought, and what stands there.
+fn see(translations: [Translation; 256], q: Sought) -> Seen
+    ensures { λ r. ⌜ r ≡ seenSought translations q ⌝ }
+{
+    if 64 <= q.from {
+        let none = Place {
+            at: 256,
+            found: false,
+        };
+        let free = tables::no_translation();
+        return Seen {
+            place: none,
+            entry: free,
+        };
+    }
+    let place = tables::place_of_pair(translations, q.device, q.event);
+    let entry = tables::translation_at(translations, place.at);
+    Seen {
+        place: place,
+        entry: entry,
+    }
+}
+
+// A record stored in its place. Beyond the table nothing is.
+fn store_device(unit: ItsState, at: usize, device: ItsDevice) -> ItsState
+    ensures { λ v. ⌜ v ≡ withDevices unit (set (unit .devices) at device) ⌝ }
+{
+    let mut u = unit;
+    let r = device;
+    if at < 32 {
+        u.devices[at] = r;
+    }
+    u
+}
+
+fn store_collection(unit: ItsState, at: usize, collection: ItsCollection) -> ItsState
+    ensures { λ v. ⌜ v ≡ withCollections unit (set (unit .collections) at collection) ⌝ }
+{
+    let mut u = unit;
+    let r = collection;
+    if at < 32 {
+        u.collections[at] = r;
+    }
+    u
+}
+
+fn store_translation(unit: ItsState, at: usize, pair: Translation) -> ItsState
+    ensures { λ v. ⌜ v ≡ withTranslations unit (set (unit .translations) at pair) ⌝ }
+{
+    let mut u = unit;
+    let r = pair;
+    if at < 256 {
+        u.translations[at] = r;
+    }
+    u
+}
+
+// Every record of the pair is dropped.
+fn drop_pair(unit: ItsState, q: Sought) -> ItsState
+    ensures { λ v. ⌜ v ≡ withTranslations unit (dropAll (isSought q) noTranslation (unit .translations)) ⌝ }
+{
+    let mut u = unit;
+    if 64 <= q.from {
+        return u;
+    }
+    let old = u.translations;
+    let ts = tables::drop_pairs(old, q.device, q.event);
+    u.translations = ts;
+    u
+}
+
+// What a plan does to the unit.
+fn apply_plan(unit: ItsState, q: Sought, p: Plan) -> ItsState
+    ensures { λ v. ⌜ v ≡ appliedTo unit q p ⌝ }
+{
+    match p {
+        Plan::Refuse(_) => unit,
+        Plan::Keep => unit,
+        Plan::Act(_) => unit,
+        Plan::StoreDevice(at, r) => store_device(unit, at, r),
+        Plan::DropDevice(device) => drop_device(unit, device),
+        Plan::StoreCollection(at, r) => store_collection(unit, at, r),
+        Plan::DropCollection(collection) => drop_collection(unit, collection),
+        Plan::StoreTranslation(at, r) => store_translation(unit, at, r),
+        Plan::DropPair => drop_pair(unit, q),
+    }
+}
+
+// What a plan comes to.
+fn answer_of(p: Plan) -> Executed
+    ensures { λ r. ⌜ r ≡ comesTo p ⌝ }
+{
+    match p {
+        Plan::Refuse(r) => Executed::NotDone(r),
+        Plan::Keep => Executed::Done,
+        Plan::Act(a) => Executed::Acted(a),
+        Plan::StoreDevice(_, _) => Executed::Done,
+        Plan::DropDevice(_) => Executed::Done,
+        Plan::StoreCollection(_, _) => Executed::Done,
+        Plan::DropCollection(_) => Executed::Done,
+        Plan::StoreTranslation(_, _) => Executed::Done,
+        Plan::DropPair => Executed::Done,
+    }
+}
+
+// One command carried out: its checks in order, then its effect.
+pub fn execute(unit: ItsState, x: Command) -> Applied
+    ensures { λ r. ⌜ r ≡ execution unit x ⌝ }
+{
+    let config = unit.config;
+    let devices = unit.devices;
+    let collections = unit.collections;
+    let translations = unit.translations;
+    let q = pair_sought(x);
+    let seen = see(translations, q);
+    let plan = plan_command(config, devices, collections, seen, x);
+    let u = apply_plan(unit, q, plan);
+    let answer = answer_of(plan);
+    Applied {
+        unit: u,
+        executed: answer,
     }
 }

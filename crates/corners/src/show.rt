@@ -47,6 +47,46 @@ pub fn cf(refusal: u64) -> Line {
     }
 }
 
+// What a command carried out by itself came to: the number of its refusal.
+pub fn ex(refusal: u64) -> Line {
+    Line {
+        first: b'E',
+        second: b'X',
+        count: 1,
+        numbers: [refusal, 0, 0, 0, 0],
+    }
+}
+
+// A record of a device: used, its number, its event bits.
+pub fn dv(used: u64, device: u64, bits: u64) -> Line {
+    Line {
+        first: b'D',
+        second: b'V',
+        count: 3,
+        numbers: [used, device, bits, 0, 0],
+    }
+}
+
+// A record of a collection: used, its number, its processor.
+pub fn cl(used: u64, collection: u64, processor: u64) -> Line {
+    Line {
+        first: b'C',
+        second: b'L',
+        count: 3,
+        numbers: [used, collection, processor, 0, 0],
+    }
+}
+
+// A record of a pair of device 5: used, its event, its LPI, its collection.
+pub fn pr(used: u64, event: u64, lpi: u64, collection: u64) -> Line {
+    Line {
+        first: b'P',
+        second: b'R',
+        count: 4,
+        numbers: [used, event, lpi, collection, 0],
+    }
+}
+
 fn same(a: Line, b: Line) -> bool {
     let x = a.numbers;
     let y = b.numbers;

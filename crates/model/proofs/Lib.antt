@@ -4,6 +4,8 @@ pub mod Corners
 pub mod Cases
 pub mod TableLaws
 pub mod TableLoops
+pub mod Places
+pub mod Plans
 pub mod KeyLaws
 pub mod Effects
 pub mod Agreement

@@ -7,6 +7,7 @@ pub mod Keys
 pub mod Config
 pub mod Decode
 pub mod Step
+pub mod Plan
 pub mod Queue
 pub mod Register
 pub mod Entry

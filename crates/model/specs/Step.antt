@@ -22,6 +22,7 @@ use Rattle.model.specs.declared.Command.{Command}
 use Rattle.model.specs.declared.Command.the-variants.{Mapd, Mapc, Mapti, Mapi, Movi, Int, Clear, Discard, Inv, Invall, Sync}
 use Rattle.model.specs.declared.Refusal.the-variants.{LpiOutOfRange, DeviceUnmapped, EventBeyondBits, CollectionUnmapped, PairUnmapped, ProcessorUnlisted, ResourceNotFound, TableFull}
 use Rattle.model.specs.declared.Executed.{Executed}
+use Rattle.model.specs.declared.Applied.{Applied}
 use Rattle.model.specs.declared.Executed.the-variants.{NotDone, Done, Acted}
 use Rattle.model.specs.declared.Verdict.{Verdict}
 use Rattle.model.specs.declared.Verdict.the-variants.{Accepted, Refused}
@@ -234,3 +235,7 @@ executedBy Accepted (a ∷ handed) = Acted a
 -- what carrying out the command comes to
 unfoldable pub executed : ItsState → Command → Executed
 executed u x = executedBy (check u x) (actionsOf u x)
+
+-- one command carried out: the unit after it, and what it comes to
+abbrev pub execution : ItsState → Command → Applied
+execution u x = record { unit = stepped u x; executed = executed u x }

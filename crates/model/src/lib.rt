@@ -192,6 +192,51 @@ pub struct ItsAction {
     pub pending: bool,
 }
 
+// What a command comes to, before anything is stored: a refusal, what it changes, or what it hands over.
+pub enum Plan {
+    Refuse(Refusal),
+    Keep,
+    Act(ItsAction),
+    StoreDevice(usize, ItsDevice),
+    DropDevice(ItsDeviceId),
+    StoreCollection(usize, ItsCollection),
+    DropCollection(CollectionId),
+    StoreTranslation(usize, Translation),
+    DropPair,
+}
+
+// What the one search of the translations found: the place of the command's pair, and what stands there.
+pub struct Seen {
+    pub place: Place,
+    pub entry: Translation,
+}
+
+// The pair that a command names, and the four records with which the search for it begins, of 64 times four: a command that names no pair
+// searches none of them.
+pub struct Sought {
+    pub device: ItsDeviceId,
+    pub event: EventId,
+    pub from: usize,
+}
+
+// What the owner of the unit does about a plan: whether it refuses, and why; whether it hands over an action, and which; whether it drops a
+// device or a collection, or the pair; and the record that it stores in each table, with its place, which is beyond the table where nothing
+// is stored.
+pub struct Change {
+    pub refuses: bool,
+    pub why: Refusal,
+    pub acts: bool,
+    pub action: ItsAction,
+    pub drops: bool,
+    pub discards: bool,
+    pub device_at: usize,
+    pub device: ItsDevice,
+    pub collection_at: usize,
+    pub collection: ItsCollection,
+    pub pair_at: usize,
+    pub pair: Translation,
+}
+
 // The answers of the public entries.
 pub enum ReadAnswer {
     Value(u64),
@@ -225,4 +270,10 @@ pub struct Configured {
 pub struct Written {
     pub unit: ItsState,
     pub answer: WriteAnswer,
+}
+
+// A command carried out: the unit after it, and what it came to.
+pub struct Applied {
+    pub unit: ItsState,
+    pub executed: Executed,
 }

@@ -29,14 +29,14 @@ use Rattle.model.specs.Step.{withDevices, withCollections, withTranslations, pa
 use Rattle.model.specs.Queue.{Window, commandAddress}
 use Rattle.model.proofs.Cases.{cases}
 use Rattle.model.proofs.Ring.{past-below}
-use Rattle.command.specs.declared.Plan.{Plan}
-use Rattle.command.specs.declared.Plan.the-variants.{Refuse, Keep, Act, StoreDevice, DropDevice, StoreCollection, DropCollection, StoreTranslation, DropPair}
-use Rattle.command.specs.declared.Sought.{Sought}
-use Rattle.command.specs.declared.Seen.{Seen}
-use Rattle.command.specs.declared.Change.{Change}
-use Rattle.command.specs.Plan.{noPair, aPair, soughtBy, isSought, seenFor, planWith, appliedTo, comesTo, changeOf, storedIn, droppedBy, dropOn}
+use Rattle.model.specs.declared.Plan.{Plan}
+use Rattle.model.specs.declared.Plan.the-variants.{Refuse, Keep, Act, StoreDevice, DropDevice, StoreCollection, DropCollection, StoreTranslation, DropPair}
+use Rattle.model.specs.declared.Sought.{Sought}
+use Rattle.model.specs.declared.Seen.{Seen}
+use Rattle.model.specs.declared.Change.{Change}
+use Rattle.model.specs.Plan.{noPair, aPair, soughtBy, isSought, seenFor, planWith, appliedTo, comesTo, changeOf, storedIn, droppedBy, dropOn}
 use Rattle.model.proofs.TableLaws.{set-beyond}
-use Rattle.command.proofs.Plans.{Sized, planFor, plans, drop-hit, drop-miss, drop-over, refusing, acting, silent, stored-dropped, discarded, no-drop}
+use Rattle.model.proofs.Plans.{Sized, planFor, plans, drop-hit, drop-miss, drop-over, refusing, acting, silent, stored-dropped, discarded, no-drop}
 use Rattle.queue.specs.declared.CommandRead.{CommandRead}
 use Rattle.queue.specs.declared.Stopped.the-variants.{Ended}
 use Rattle.queue.specs.declared.Progress.{Progress}

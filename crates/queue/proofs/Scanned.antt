@@ -22,9 +22,9 @@ use Rattle.model.specs.Keys.{isPair, noTranslation}
 use Rattle.model.proofs.Cases.{cases}
 use Rattle.model.proofs.TableLaws.{firstAt-le, found-is}
 use Rattle.model.proofs.TableLoops.{firstAt-on, firstAt-found}
-use Rattle.command.specs.declared.Sought.{Sought}
-use Rattle.command.specs.declared.Seen.{Seen}
-use Rattle.command.specs.Plan.{noPair, aPair, soughtBy, isSought, isRoom, pairAt, seenPair, nothingSeen, seenFor}
+use Rattle.model.specs.declared.Sought.{Sought}
+use Rattle.model.specs.declared.Seen.{Seen}
+use Rattle.model.specs.Plan.{noPair, aPair, soughtBy, isSought, isRoom, pairAt, seenPair, nothingSeen, seenFor}
 
 module _ {A : Type 0} where
   -- what a search by fours knows before the four records of number i: none before them passes

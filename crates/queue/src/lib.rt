@@ -1,6 +1,5 @@
 // The command queue: the guest window, the action row, and the bounded run over both. All behaviour is in `start`, `advance` and `finish`, which
 // go by value; `process_commands` only loops over them and has `store_action` store the actions.
-use command::Seen;
 use model::Decoded;
 use model::GicVcpuId;
 use model::ItsAction;
@@ -8,6 +7,7 @@ use model::ItsRegisters;
 use model::ItsState;
 use model::LpiId;
 use model::Refusal;
+use model::Seen;
 ghost use mathlib.Core.Path.{_≡_};
 ghost use mathlib.Core.Bool.{true};
 ghost use Prim.Native.Nat.{_≤_, _<_};

@@ -3,7 +3,7 @@
 use mathlib.Core.Path.{sym, ap, _∙_}
 use borrow.Author.Needs.{needs}
 use borrow.Author.Tests.{not-true, not-false}
-use Rattle.command.specs.Plan.{planAction}
+use Rattle.model.specs.Plan.{planAction}
 use Rattle.command.proofs.plan_action.Statement.{statement}
 use Rattle.command.proofs.plan_action.Tie as tie
 

@@ -1,7 +1,7 @@
 -- `command::plan_discard` meets its contract: the pair was found, or not.
 -- Assumes nothing.
 use borrow.Author.Tests.{not-true, not-false}
-use Rattle.command.specs.Plan.{planDiscard}
+use Rattle.model.specs.Plan.{planDiscard}
 use Rattle.command.proofs.plan_discard.Statement.{statement}
 use Rattle.command.proofs.plan_discard.Tie as tie
 

@@ -1,7 +1,7 @@
 -- `command::plan_invalidate` meets its contract: the pair was found, or not.
 -- Assumes nothing.
 use borrow.Author.Tests.{not-true, not-false}
-use Rattle.command.specs.Plan.{planInv}
+use Rattle.model.specs.Plan.{planInv}
 use Rattle.command.proofs.plan_invalidate.Statement.{statement}
 use Rattle.command.proofs.plan_invalidate.Tie as tie
 

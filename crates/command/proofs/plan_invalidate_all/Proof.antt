@@ -3,7 +3,7 @@
 use mathlib.Core.Path.{sym, ap, _∙_}
 use borrow.Author.Needs.{needs}
 use borrow.Author.Tests.{not-true, not-false}
-use Rattle.command.specs.Plan.{planInvall}
+use Rattle.model.specs.Plan.{planInvall}
 use Rattle.command.proofs.plan_invalidate_all.Statement.{statement}
 use Rattle.command.proofs.plan_invalidate_all.Tie as tie
 

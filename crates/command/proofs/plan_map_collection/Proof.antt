@@ -3,7 +3,7 @@
 use mathlib.Core.Path.{sym, ap, _∙_}
 use borrow.Author.Needs.{needs}
 use borrow.Author.Tests.{not-true, not-false, lt-ltb, le-ltb}
-use Rattle.command.specs.Plan.{planMapc}
+use Rattle.model.specs.Plan.{planMapc}
 use Rattle.command.proofs.plan_map_collection.Statement.{statement}
 use Rattle.command.proofs.plan_map_collection.Tie as tie
 

@@ -3,7 +3,7 @@
 use mathlib.Core.Path.{ap}
 use borrow.Author.Needs.{needs}
 use borrow.Author.Tests.{not-true, not-false, lt-ltb, le-ltb}
-use Rattle.command.specs.Plan.{planMapd}
+use Rattle.model.specs.Plan.{planMapd}
 use Rattle.command.proofs.plan_map_device.Statement.{statement}
 use Rattle.command.proofs.plan_map_device.Tie as tie
 

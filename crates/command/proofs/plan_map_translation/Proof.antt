@@ -4,8 +4,8 @@ use mathlib.Core.Path.{_≡_, sym, ap, _∙_}
 use mathlib.Core.Bool.{true}
 use borrow.Author.Needs.{needs}
 use borrow.Author.Tests.{not-true, not-false, lt-ltb, le-ltb}
-use Rattle.command.specs.Plan.{planMapping}
-use Rattle.command.proofs.Places.{At, told}
+use Rattle.model.specs.Plan.{planMapping}
+use Rattle.model.proofs.Places.{At, told}
 use Rattle.command.proofs.plan_map_translation.Statement.{statement}
 use Rattle.command.proofs.plan_map_translation.Tie as tie
 

@@ -3,7 +3,7 @@
 use mathlib.Core.Path.{sym, ap, _∙_}
 use borrow.Author.Needs.{needs}
 use borrow.Author.Tests.{not-true, not-false}
-use Rattle.command.specs.Plan.{planMovi}
+use Rattle.model.specs.Plan.{planMovi}
 use Rattle.command.proofs.plan_move_translation.Statement.{statement}
 use Rattle.command.proofs.plan_move_translation.Tie as tie
 

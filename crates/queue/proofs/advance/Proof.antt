@@ -12,9 +12,9 @@ use Rattle.model.proofs.TableLoops.{length-mapped, beyond}
 use Rattle.model.specs.Step.{withTranslations}
 use Rattle.model.specs.Keys.{noTranslation}
 use Rattle.model.specs.Table.{firstAt}
-use Rattle.command.specs.Plan.{isSought, isRoom}
-use Rattle.command.proofs.Places.{At, Before}
-use Rattle.command.proofs.Plans.{Sized}
+use Rattle.model.specs.Plan.{isSought, isRoom}
+use Rattle.model.proofs.Places.{At, Before}
+use Rattle.model.proofs.Plans.{Sized}
 use Rattle.queue.specs.Reading.{lent}
 use Rattle.queue.proofs.Scanned.{Scanned, scan-starts, scan-over, from-start, room-start, the-known, sought-hit, sought-miss, room-hit, room-miss, seen-is}
 use Rattle.queue.proofs.Advanced.{Going, going-starts}

@@ -1,39 +1,39 @@
--- A command's plan: what is to be stored, dropped or handed over, from the command and what the searches found. No sentence of document 01
--- stands here: proofs/Plans.antt shows that what a plan comes to is what Step.antt of the model says.
+-- A command's plan: its checks, with what is to be stored where, dropped or handed over, said over the records that the searches found. No
+-- sentence of document 01 stands here: proofs/Plans.antt shows that plan and stores together are Step.antt's step.
 -- Assumes nothing.
 use Prim.Native.Nat.{ℕ, zero, suc}
 use mathlib.Core.Bool.{Bool, true, false, not, _&&_}
 use mathlib.Core.List.{List, [], _∷_}
 use lib.ListN.{getD, set}
 use lib.Dec.{ltb}
 use Rattle.model.specs.declared.ItsDeviceId.{ItsDeviceId}
 use Rattle.model.specs.declared.EventId.{EventId}
 use Rattle.model.specs.declared.CollectionId.{CollectionId}
 use Rattle.model.specs.declared.LpiId.{LpiId}
 use Rattle.model.specs.declared.GicVcpuId.{GicVcpuId}
 use Rattle.model.specs.declared.ItsDevice.{ItsDevice}
 use Rattle.model.specs.declared.ItsCollection.{ItsCollection}
 use Rattle.model.specs.declared.Translation.{Translation}
 use Rattle.model.specs.declared.ItsConfig.{ItsConfig}
 use Rattle.model.specs.declared.ItsState.{ItsState}
 use Rattle.model.specs.declared.Place.{Place}
 use Rattle.model.specs.declared.ItsAction.{ItsAction}
 use Rattle.model.specs.declared.Refusal.{Refusal}
 use Rattle.model.specs.declared.Command.{Command}
 use Rattle.model.specs.declared.Command.the-variants.{Mapd, Mapc, Mapti, Mapi, Movi, Int, Clear, Discard, Inv, Invall, Sync}
 use Rattle.model.specs.declared.Executed.{Executed}
 use Rattle.model.specs.declared.Executed.the-variants.{NotDone, Done, Acted}
 use Rattle.model.specs.declared.Refusal.the-variants.{LpiOutOfRange, DeviceUnmapped, EventBeyondBits, CollectionUnmapped, PairUnmapped, ProcessorUnlisted, ResourceNotFound, TableFull}
 use Rattle.model.specs.Choose.{if_then_else_, _or_then_}
 use Rattle.model.specs.Table.{placeOf, dropAll}
 use Rattle.model.specs.Keys.{isDevice, isCollection, isPair, aDevice, aCollection, aTranslation, noDevice, noCollection, noTranslation, delivery, eventAsLpi}
 use Rattle.model.specs.Config.{listed}
 use Rattle.model.specs.Step.{lpiInRange, eventBelow, actionTo, withDevices, withCollections, withTranslations, dropDevice, dropCollection}
-use Rattle.command.specs.declared.Plan.{Plan}
-use Rattle.command.specs.declared.Plan.the-variants.{Refuse, Keep, Act, StoreDevice, DropDevice, StoreCollection, DropCollection, StoreTranslation, DropPair}
-use Rattle.command.specs.declared.Seen.{Seen}
-use Rattle.command.specs.declared.Sought.{Sought}
-use Rattle.command.specs.declared.Change.{Change}
+use Rattle.model.specs.declared.Plan.{Plan}
+use Rattle.model.specs.declared.Plan.the-variants.{Refuse, Keep, Act, StoreDevice, DropDevice, StoreCollection, DropCollection, StoreTranslation, DropPair}
+use Rattle.model.specs.declared.Seen.{Seen}
+use Rattle.model.specs.declared.Sought.{Sought}
+use Rattle.model.specs.declared.Change.{Change}
 
 -- where a device, a collection, a pair is or would go
 abbrev pub deviceAt : List ItsDevice → ItsDeviceId → Place
@@ -79,6 +79,15 @@ isSought q r = ltb (q .from) 64 && isPair (q .device) (q .event) r
 abbrev pub isRoom : ℕ → Translation → Bool
 isRoom from r = ltb from 64 && not (r .used)
 
+-- where the search for a free record begins: where the pair was found there is none
+abbrev pub freeFrom : ℕ → ℕ → ℕ
+freeFrom held from = if ltb held 256 then 64 else from
+
+-- the pair's own record, or the free one
+abbrev pub placeSeen : ℕ → ℕ → Place
+placeSeen held free = record { at = if ltb held 256 then held else free; found = ltb held 256 }
+
+-- what is seen for a command
 abbrev pub seenFor : List Translation → Command → Seen
 seenFor ts (Mapd d bits valid) = nothingSeen
 seenFor ts (Mapc c p valid) = nothingSeen
@@ -91,6 +100,10 @@ seenFor ts (Discard d e) = seenPair ts d e
 seenFor ts (Inv d e) = seenPair ts d e
 seenFor ts (Invall c) = nothingSeen
 seenFor ts Sync = nothingSeen
+
+-- the same, of what is sought
+abbrev pub seenSought : List Translation → Sought → Seen
+seenSought ts q = if ltb (q .from) 64 then seenPair ts (q .device) (q .event) else nothingSeen
 
 -- the plan of each command
 unfoldable pub planMapd : List ItsDevice → ItsDeviceId → ℕ → Bool → Plan
@@ -225,6 +238,11 @@ dropOn i p empty [] = []
 dropOn zero p empty (r ∷ rs) = (if p r then empty else r) ∷ dropOn zero p empty rs
 dropOn (suc i) p empty (r ∷ rs) = r ∷ dropOn i p empty rs
 
+-- where the drop of a pair begins, held being the first of its records: beyond the table where the pair is not dropped
+abbrev pub discardFrom : Bool → ℕ → ℕ
+discardFrom discards held = if discards then held else 256
+
+-- the drop of a device or of a collection
 abbrev pub droppedBy : ItsState → Plan → ItsState
 droppedBy u (Refuse r) = u
 droppedBy u Keep = u

@@ -1,38 +1,40 @@
--- What a command's plan comes to, and what it does to the unit, is what the model's Step.antt says of the command: its checks in order, then its
--- effect.
+-- What a command's plan comes to, and what it does to the unit, is what Step.antt says of the command: its checks in order, then its effect.
 -- Assumes nothing.
 use Prim.Native.Nat.{ℕ, zero, suc, _+_, _≤_}
 use native.Mathlib.Numerals.{add-one}
 use native.Mathlib.Omega.{arith}
-use mathlib.Core.Path.{_≡_, refl, sym, ap, _∙_}
+use mathlib.Core.Path.{_≡_, refl, sym, ap, ap₂, _∙_}
 use mathlib.Core.Bool.{Bool, true, false}
 use mathlib.Core.List.{List, [], _∷_}
 use mathlib.Core.Option.{none, some}
 use lib.ListN.{length, getD, set}
 use lib.Dec.{ltb}
 use Rattle.model.specs.declared.ItsDeviceId.{ItsDeviceId}
 use Rattle.model.specs.declared.EventId.{EventId}
 use Rattle.model.specs.declared.CollectionId.{CollectionId}
 use Rattle.model.specs.declared.LpiId.{LpiId}
 use Rattle.model.specs.declared.GicVcpuId.{GicVcpuId}
+use Rattle.model.specs.declared.Translation.{Translation}
 use Rattle.model.specs.declared.ItsState.{ItsState}
 use Rattle.model.specs.declared.Command.{Command}
 use Rattle.model.specs.declared.Command.the-variants.{Mapd, Mapc, Mapti, Mapi, Movi, Int, Clear, Discard, Inv, Invall, Sync}
 use Rattle.model.specs.declared.Refusal.the-variants.{ResourceNotFound}
+use Rattle.model.specs.declared.Executed.{Executed}
 use Rattle.model.specs.declared.Executed.the-variants.{NotDone, Done, Acted}
 use Rattle.model.specs.declared.Verdict.the-variants.{Accepted, Refused}
 use Rattle.model.specs.Choose.{if_then_else_, _or_then_, isFound}
 use Rattle.model.specs.Table.{firstAt, place, room, store, dropAll}
 use Rattle.model.specs.Keys.{isDevice, isCollection, isPair, noDevice, noCollection, noTranslation, eventAsLpi}
 use Rattle.model.specs.Config.{listed}
-use Rattle.model.specs.Step.{deviceOf, collectionOf, translationOf, deliveryIn, lpiInRange, eventBelow, deviceMapped, collectionMapped, pairMapped, pairTranslates, checkMapping, storeDevice, storeCollection, storeTranslation, movePair, withTranslations, dropPair, actionsOn, isAccepted, stepped, executedBy, executed}
+use Rattle.model.specs.Step.{deviceOf, collectionOf, translationOf, deliveryIn, lpiInRange, eventBelow, deviceMapped, collectionMapped, pairMapped, pairTranslates, checkMapping, storeDevice, storeCollection, storeTranslation, movePair, withTranslations, dropPair, actionsOn, isAccepted, stepped, executedBy, executed, execution}
 use Rattle.model.proofs.Cases.{cases, never}
 use Rattle.model.proofs.TableLaws.{set-beyond}
 use Rattle.model.proofs.TableLoops.{found-look, missing-look}
-use Rattle.command.specs.declared.Plan.{Plan}
-use Rattle.command.specs.declared.Sought.{Sought}
-use Rattle.command.specs.declared.Plan.the-variants.{Refuse, Keep, Act, StoreDevice, DropDevice, StoreCollection, DropCollection, StoreTranslation, DropPair}
-use Rattle.command.specs.Plan.{deviceAt, collectionAt, pairAt, seenPair, seenFor, aPair, soughtBy, isSought, dropOn, planMapd, planMapc, planMapping, planMovi, planAction, planDiscard, planInv, planInvall, planWith, appliedTo, comesTo, changeOf, storedIn, droppedBy}
+use Rattle.model.specs.declared.Plan.{Plan}
+use Rattle.model.specs.declared.Sought.{Sought}
+use Rattle.model.specs.declared.Seen.{Seen}
+use Rattle.model.specs.declared.Plan.the-variants.{Refuse, Keep, Act, StoreDevice, DropDevice, StoreCollection, DropCollection, StoreTranslation, DropPair}
+use Rattle.model.specs.Plan.{deviceAt, collectionAt, pairAt, seenPair, seenFor, seenSought, aPair, soughtBy, isSought, dropOn, planMapd, planMapc, planMapping, planMovi, planAction, planDiscard, planInv, planInvall, planWith, appliedTo, comesTo, changeOf, storedIn, droppedBy}
 
 -- The tables have their sizes.
 pub record Sized (u : ItsState) : Type 0 where
@@ -43,6 +45,20 @@ pub record Sized (u : ItsState) : Type 0 where
 -- the plan that is made for the command
 abbrev pub planFor : ItsState → Command → Plan
 planFor u x = planWith (u .config) (u .devices) (u .collections) (seenFor (u .translations) x) x
+
+-- what is seen of the pair that a command names is what is seen for the command
+pub seen-sought : (ts : List Translation) (x : Command) → seenSought ts (soughtBy x) ≡ seenFor ts x
+seen-sought ts (Mapd d bits valid) = refl
+seen-sought ts (Mapc c p valid) = refl
+seen-sought ts (Mapti d e l c) = refl
+seen-sought ts (Mapi d e c) = refl
+seen-sought ts (Movi d e c) = refl
+seen-sought ts (Int d e) = refl
+seen-sought ts (Clear d e) = refl
+seen-sought ts (Discard d e) = refl
+seen-sought ts (Inv d e) = refl
+seen-sought ts (Invall c) = refl
+seen-sought ts Sync = refl
 
 -- What the plan says and does.
 abbrev Right : ItsState → Command → Type 0
@@ -76,6 +92,22 @@ module _ {A : Type 0} (p : A → Bool) (empty d : A) where
   drop-over i [] h = refl
   drop-over zero (r ∷ rs) h = absurd (omega arith)
   drop-over (suc i) (r ∷ rs) h = ap (λ l. r ∷ l) (drop-over i rs (omega arith))
+
+-- the drop of what is sought is the drop of the pair, or none
+none-dropped : {A : Type 0} (p : A → Bool) (empty : A) (rs : List A) → ((a : A) → p a ≡ false) → dropAll p empty rs ≡ rs
+none-dropped p empty [] h = refl
+none-dropped p empty (r ∷ rs) h = rw (h r) (ap (λ l. r ∷ l) (none-dropped p empty rs h))
+
+same-dropped : {A : Type 0} (p s : A → Bool) (empty : A) (rs : List A) → ((a : A) → p a ≡ s a) → dropAll p empty rs ≡ dropAll s empty rs
+same-dropped p s empty [] h = refl
+same-dropped p s empty (r ∷ rs) h = rw (h r) (ap (λ l. (if s r then empty else r) ∷ l) (same-dropped p s empty rs h))
+
+module _ (q : Sought) (ts : List Translation) where
+  pub sought-none : ltb (q .from) 64 ≡ false → dropAll (isSought q) noTranslation ts ≡ ts
+  sought-none h = none-dropped (isSought q) noTranslation ts (λ r. rw h refl)
+
+  pub sought-pair : ltb (q .from) 64 ≡ true → dropAll (isSought q) noTranslation ts ≡ dropAll (isPair (q .device) (q .event)) noTranslation ts
+  sought-pair h = same-dropped (isSought q) (isPair (q .device) (q .event)) noTranslation ts (λ r. rw h refl)
 
 drop-first : {A : Type 0} (p : A → Bool) (empty : A) (rs : List A) → dropOn (firstAt p rs) p empty rs ≡ dropAll p empty rs
 drop-first p empty [] = refl
@@ -275,3 +307,13 @@ module _ (u : ItsState) (sized : Sized u) where
   plans (Inv d e) = inv d e
   plans (Invall c) = invall c
   plans Sync = (refl, refl)
+
+  -- what is sought and seen, the plan that is made of it, what it does and what it comes to: the command is carried out
+  pub carried : (x : Command) {q : Sought} {s : Seen} {p : Plan} {v : ItsState} {e : Executed} → q ≡ soughtBy x → s ≡ seenSought (u .translations) q →
+      p ≡ planWith (u .config) (u .devices) (u .collections) s x → v ≡ appliedTo u q p → e ≡ comesTo p → record { unit = v; executed = e } ≡ execution u x
+  carried x {q} {s} {p} {v} {e} hq hs hp hv he =
+      let seen : s ≡ seenFor (u .translations) x = hs ∙ (ap (seenSought (u .translations)) hq ∙ seen-sought (u .translations) x) in
+      let made : p ≡ planFor u x = hp ∙ ap (λ a. planWith (u .config) (u .devices) (u .collections) a x) seen in
+      ap₂ (λ a b. record { unit = a; executed = b })
+      (hv ∙ (ap₂ (λ a b. appliedTo u a b) hq made ∙ plans x .0))
+      (he ∙ (ap comesTo made ∙ plans x .1))
