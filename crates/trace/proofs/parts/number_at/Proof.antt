@@ -3,7 +3,7 @@
 use Prim.Native.Nat.{_+_, _-_, _^_, _≤_, _<_}
 use native.Mathlib.Omega.{arith}
 use mathlib.Core.Path.{_≡_}
-use lib.ListN.{length, drop}
+use lib.ListN.{drop}
 use borrow.Author.Needs.{needs}
 use Rattle.model.specs.Queue.{littleEndian}
 use Rattle.words.proofs.LittleEndian.{one-more, below-from}
@@ -62,8 +62,7 @@ loop-again c =
     let a = c .before .before .before .before .before .args in
     let here : a .at + (a .count - (h .done + 1)) ≡ a .at + (a .count - h .done - 1) = omega arith in
     let above : a .at + (a .count - h .done) ≡ a .at + (a .count - h .done - 1) + 1 = omega arith in
-    let inside : a .at + (a .count - h .done - 1) < length (a .bytes .now) = omega arith in
-    (omega arith, rw (here, one-more (h .done) (a .at + (a .count - h .done - 1)) (a .bytes .now) inside, ← above, c .wide .ensures, h .inv .1))
+    (omega arith, rw (here, one-more (h .done) (a .at + (a .count - h .done - 1)) (a .bytes .now), ← above, c .wide .ensures, h .inv .1))
 
 returns : tie.Need-returns Inv-loop μ-loop
 returns c =
