@@ -1,4 +1,4 @@
-/* The run over a trace as a plain C call. tools/archive.sh trace makes the archive that has it. */
+/* The proved ITS as plain C calls: a whole trace at once, and the calls that a host makes. docs/HOSTS.md shows how to make and link the archives. */
 #ifndef ITS_H
 #define ITS_H
 
@@ -9,17 +9,71 @@
 extern "C" {
 #endif
 
+/* In every call: the runs of memory must not overlap. A pointer with length 0 is not followed, but must not be null. No call keeps a pointer. */
+
 /*
+ * The trace (libtrace.a).
+ *
  * Runs the records of a trace, from a unit that is not configured yet, and writes one line for each answer into the output.
  *
  * The trace is trace_length bytes; no byte of it is changed. At most the first 65,536 bytes of the output are used. Only whole lines are
- * written; the bytes behind them stay as they were, and no others are touched. The two runs of bytes must not overlap. A pointer with
- * length 0 is not followed, but must not be null.
+ * written; the bytes behind them stay as they were, and no others are touched.
  *
  * Returns 16 times the number of bytes written, plus 11 if a line did not fit: the lines before it are written, and the run ends there.
  * Every trace gets an answer, damaged ones too: where a record is broken the line is "??" with the offset of its mark, and it is the last.
  */
 uint64_t its_trace(const uint8_t *trace, size_t trace_length, uint8_t *output, size_t output_length);
+
+/*
+ * The calls for hosts (libhost.a).
+ *
+ * A unit is 608 numbers that the host owns. The host copies and stores them as it likes, and looks into them if it wants to: which numbers mean
+ * what stands in crates/numbers/specs/Unit.antt. Nothing is asked of them: whatever they are, each call answers. Numbers that are no sound
+ * unit, all of them 0 for example, are refused with 1.
+ *
+ * Each call returns the number of its refusal, 0 if there is none, and puts five numbers into told, the first of them the same:
+ *
+ *   its_configure   refusal, 0, 0, 0, 0
+ *   its_read        refusal, value, 0, 0, 0
+ *   its_write       refusal, opcode, offset, done, actions
+ *   its_translate   refusal, LPI, processor, 0, 0
+ */
+#define ITS_WORDS 608
+#define ITS_TOLD 5
+
+typedef struct {
+    uint64_t words[ITS_WORDS];
+} its_unit;
+
+typedef struct {
+    uint64_t numbers[ITS_TOLD];
+} its_told;
+
+/* Makes the unit a fresh one of this configuration. Where it is refused, with 1, the unit is one that answers 1 to everything. */
+uint64_t its_configure(its_unit *unit, uint32_t lpi_limit, uint32_t command_budget, uint32_t frame_size, const uint16_t *processors,
+    size_t processor_count, its_told *told);
+
+/* Reads a register of the frame. */
+uint64_t its_read(const its_unit *unit, uint64_t offset, uint8_t width, its_told *told);
+
+/*
+ * Writes a register of the frame; an enabled unit then runs the commands that wait in its queue.
+ *
+ * The window is guest memory: window_length bytes, the first of them at the guest address window_address; the queue is read from it. The row
+ * gets the actions of INT and CLEAR, one number each, the first first; its numbers behind them stay as they were. A row with less room than
+ * the command budget is refused with 10, and 1,024 are enough for any budget. After a refusal of a command the row still holds the actions of
+ * the commands carried out before, although told says 0.
+ */
+uint64_t its_write(its_unit *unit, uint64_t window_address, const uint8_t *window, size_t window_length, uint64_t *row, size_t row_length,
+    uint64_t offset, uint8_t width, uint64_t value, its_told *told);
+
+/* Where a message of a device and event goes. */
+uint64_t its_translate(const its_unit *unit, uint32_t device, uint32_t event, its_told *told);
+
+/* The parts of an action of the row. */
+static inline uint32_t its_action_lpi(uint64_t action) { return (uint32_t)action; }
+static inline uint16_t its_action_processor(uint64_t action) { return (uint16_t)(action >> 32); }
+static inline int its_action_pending(uint64_t action) { return (int)(action >> 48 & 1); }
 
 #ifdef __cplusplus
 }

@@ -14,7 +14,7 @@ there() {
     bad=1
 }
 # `File.name`, `proofs/File.name`, `model: File.name`
-grep -o '`[^`]*`' "$page" | tr -d '`' | grep -E '^((model|its|mappings): )?(proofs/)?[A-Z][A-Za-z0-9]*\.[A-Za-z][A-Za-z0-9-]*$' | grep -Ev '\.(md|antt)$|File\.name$' | sort -u >"${TMPDIR:-/tmp}/names.$$"
+grep -o '`[^`]*`' "$page" | tr -d '`' | grep -E '^((model|its|host|numbers|mappings): )?(proofs/)?[A-Z][A-Za-z0-9]*\.[A-Za-z][A-Za-z0-9-]*$' | grep -Ev '\.(md|antt)$|File\.name$' | sort -u >"${TMPDIR:-/tmp}/names.$$"
 while IFS= read -r word; do
     crate=guarantees folder=specs
     case $word in *': '*) crate=${word%%: *} word=${word#*: } ;; esac

@@ -1,9 +1,9 @@
 #!/bin/sh
-# The C call, compiled for the machine at hand, against the published Rust in one process: every line of generated and exhaustive traces; then
-# damaged traces, outputs of every small length, and recorded answers.
+# The C calls, compiled for the machine at hand, against the published Rust in one process: every line of generated and exhaustive traces, through
+# its_trace and through the calls for hosts; then damaged traces, outputs of every small length, and recorded answers.
 #   tools/differential.sh                   the part that the tests run
 #   tools/differential.sh TRACES [SEED]     as many generated traces as you like, from a seed on (0), and the exhaustive ones
-# The archive comes from tools/archive.sh, unless ITS_ARCHIVE names a folder with a libtrace.a to try. Where the published Rust is not at hand this
+# The archives come from tools/archive.sh, unless ITS_ARCHIVE names a folder with a libtrace.a and a libhost.a to try. Where the published Rust is not at hand this
 # says so, and runs what needs it not.
 set -eu
 root=$(cd "$(dirname "$0")/.." && pwd)
@@ -13,7 +13,8 @@ traces=${1:-20000}
 from=${2:-0}
 damaged=$((traces / 100 + 200))
 if [ -z "${ITS_ARCHIVE:-}" ]; then
-    say "the archive with the C call"
+    say "the archives with the C calls"
+    "$root/tools/archive.sh" host >/dev/null
     ITS_ARCHIVE=$(dirname "$("$root/tools/archive.sh" trace | tail -n 1)")
 fi
 export ITS_ARCHIVE
@@ -52,14 +53,18 @@ program() {
     }
 }
 if [ -z "$with" ]; then
-    say "generated and exhaustive traces"
-    program run --traces "$traces" --from "$from" --exhaustive
-    if [ $# -gt 0 ]; then cat "$log"; else sed '/^$/q' "$log"; fi
+    for way in '' --host; do
+        say "generated and exhaustive traces${way:+, through the calls for hosts}"
+        program $way run --traces "$traces" --from "$from" --exhaustive
+        if [ $# -gt 0 ]; then cat "$log"; else sed '/^$/q' "$log"; fi
+    done
 fi
 say "damaged traces"
 program damage --traces "$damaged" --from "$from"
 cat "$log"
 say "recorded answers"
-program recorded "$root/crates/replay/data/recorded" "$root/crates/replay/data/linux"
-sed "s|$root/||" "$log"
+for way in '' --host; do
+    program $way recorded "$root/crates/replay/data/recorded" "$root/crates/replay/data/linux"
+    sed "s|$root/||" "$log"
+done
 say "done"

@@ -29,8 +29,9 @@ verdict=$(tail -n 1 "$log")
 cp "$log" target/ci.log
 if [ "$status" -eq 0 ]; then
     tools/must-fail-reasons.sh || fail "a must-fail edit shows nothing"
-    # After rt ci, so that what the C call stands on is proved already.
-    tools/differential.sh || fail "the C call does not answer as the published Rust"
+    # After rt ci, so that what the C calls stand on is proved already.
+    tools/differential.sh || fail "a C call does not answer as the published Rust"
+    tools/host.sh || fail "the calls for hosts do not answer as they must"
 fi
 echo "$verdict"
 exit "$status"

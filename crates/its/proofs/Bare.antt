@@ -31,6 +31,11 @@ module _ (u : ItsState) where
     pub read-bare : (r : Register) → readOf (bare (u .config) (u .registers)) offset width r ≡ readOf u offset width r
     read-bare r = rw (value-bare r)
 
+    -- a read of either is the same
+    pub same-read : read (bare (u .config) (u .registers)) offset width ≡ read u offset width
+    unfolding read
+    same-read = rw (read-bare (registerAt offset))
+
     -- a read, from what the code learns: v is the verdict and n what was read
     module _ {v : Verdict} (told : v ≡ checkRead (bare (u .config) (u .registers)) offset width) where
       pub reads : v ≡ Accepted → {n : ℕ} → n ≡ readOf (bare (u .config) (u .registers)) offset width (registerAt offset) → Value n ≡ read u offset width

@@ -23,7 +23,7 @@ use queue::Stopped;
 use registers::RegisterWrite;
 ghost use mathlib.Core.Path.{_≡_};
 ghost use Rattle.model.specs.Config.{freshUnit, noConfig, freshRegisters};
-ghost use Rattle.model.specs.Entry.{checkRead};
+ghost use Rattle.model.specs.Entry.{checkRead, read};
 ghost use Rattle.model.specs.Trace.{lentRow};
 ghost use Rattle.queue.specs.Reading.{lent};
 ghost use Rattle.its.specs.Contracts.{NoUnit, Configures, Reads, Writes, WritesLent, besideRow, lentOf, Translates};
@@ -135,11 +135,10 @@ fn check_read(config: ItsConfig, registers: ItsRegisters, offset: u64, width: u8
     registers::access::validate_its_access(config, offset, width)
 }
 
-pub fn read_its(unit: ItsState, offset: u64, width: u8) -> ReadAnswer
-    ensures { λ r. ⌜ Reads unit offset width r ⌝ }
+// A read, of a configuration and registers: nothing that it checks or reads depends on the tables.
+pub fn read_from(config: ItsConfig, registers: ItsRegisters, offset: u64, width: u8) -> ReadAnswer
+    ensures { λ r. ⌜ r ≡ read (bare config registers) offset width ⌝ }
 {
-    let config = unit.config;
-    let registers = unit.registers;
     let verdict = check_read(config, registers, offset, width);
     match verdict {
         Verdict::Accepted => {
@@ -148,6 +147,14 @@ pub fn read_its(unit: ItsState, offset: u64, width: u8) -> ReadAnswer
         }
         Verdict::Refused(why) => ReadAnswer::NoValue(why),
     }
+}
+
+pub fn read_its(unit: ItsState, offset: u64, width: u8) -> ReadAnswer
+    ensures { λ r. ⌜ Reads unit offset width r ⌝ }
+{
+    let config = unit.config;
+    let registers = unit.registers;
+    read_from(config, registers, offset, width)
 }
 
 // A disabled unit translates too.
@@ -199,7 +206,7 @@ fn check_write(
     registers::access::validate_its_access(config, offset, width)
 }
 
-fn write_access(
+pub fn write_access(
     config: ItsConfig,
     registers: ItsRegisters,
     room: usize,

@@ -50,7 +50,7 @@ pub fn verdict_number(verdict: Verdict) -> u64
 }
 
 // The numbers of a read: refusal and value.
-fn read_numbers(answer: ReadAnswer) -> [u64; 5]
+pub fn read_numbers(answer: ReadAnswer) -> [u64; 5]
     ensures { λ r. ⌜ r ≡ readNumbers answer .refusal ∷ readNumbers answer .value ∷ 0 ∷ 0 ∷ 0 ∷ [] ⌝ }
 {
     match answer {
@@ -63,7 +63,7 @@ fn read_numbers(answer: ReadAnswer) -> [u64; 5]
 }
 
 // The numbers of a write: refusal, opcode, offset, done, actions.
-fn write_numbers(answer: WriteAnswer) -> [u64; 5]
+pub fn write_numbers(answer: WriteAnswer) -> [u64; 5]
     ensures { λ r. ⌜ r ≡ writeNumbers answer .refusal ∷ writeNumbers answer .opcode ∷ writeNumbers answer .offset ∷ writeNumbers answer .done ∷ writeNumbers answer .actions ∷ [] ⌝ }
 {
     match answer {
@@ -87,7 +87,7 @@ fn write_numbers(answer: WriteAnswer) -> [u64; 5]
 }
 
 // The numbers of a translation: refusal, LPI, processor.
-fn translate_numbers(answer: TranslateAnswer) -> [u64; 5]
+pub fn translate_numbers(answer: TranslateAnswer) -> [u64; 5]
     ensures { λ r. ⌜ r ≡ translateNumbers answer .refusal ∷ translateNumbers answer .lpi ∷ translateNumbers answer .processor ∷ 0 ∷ 0 ∷ [] ⌝ }
 {
     match answer {

@@ -1,8 +1,9 @@
-//! The C call, and a call of it that watches the bytes around its output.
+//! The C calls, and a call that watches the bytes around its output.
 
-use oracle::room::MOST_OUTPUT;
+use oracle::room::{MOST_OUTPUT, returned, written};
 
-/// What is held against the Rust: the C call, or in a test one that wraps it.
+/// What is held against the Rust: one of the two below, or in a test one that
+/// wraps it.
 pub type Call = fn(&[u8], &mut [u8]) -> u64;
 
 unsafe extern "C" {
@@ -20,6 +21,15 @@ pub fn c_call(trace: &[u8], output: &mut [u8]) -> u64 {
     // Both runs of bytes live through the call, which keeps no pointer, reads
     // only the first and writes only the second.
     unsafe { its_trace(bytes, trace.len(), room, output.len()) }
+}
+
+/// The same through the calls for hosts: the example host of host/replay answers
+/// the records of the trace one by one.
+pub fn host_calls(trace: &[u8], output: &mut [u8]) -> u64 {
+    let lines = replay::replay(trace);
+    let fits = written(&lines, output.len());
+    output[..fits].copy_from_slice(&lines[..fits]);
+    returned(&lines, output.len())
 }
 
 /// So many bytes stand before the output and behind it.

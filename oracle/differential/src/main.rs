@@ -5,24 +5,32 @@ use std::path::Path;
 use std::process::{self, Command, ExitCode};
 use std::{env, fs};
 
-use differential::call::c_call;
+use differential::call::{Call, c_call, host_calls};
 use differential::workers::AT_WORK;
 use differential::{damage, recorded};
 
-const USAGE: &str = "usage: differential COMMAND
+const USAGE: &str = "usage: differential [--host] COMMAND
   run --traces N [--from SEED] [--exhaustive]
                        the C call and the published Rust on the traces of N seeds,
                        and on every exhaustive trace
   damage --traces N [--from NUMBER]
                        the C call on damaged traces and outputs of many lengths
   recorded FOLDER ..   the C call on every NAME.trace against NAME.expect
-  answer [FILE]        the C call's lines for a trace";
+  answer [FILE]        the C call's lines for a trace
+The C call is its_trace; with --host a trace goes through the calls for hosts.";
+
+/// What a trace goes through, and its name.
+type Way = (Call, &'static str);
 
 fn main() -> ExitCode {
     let words: Vec<String> = env::args().skip(1).collect();
     let words: Vec<&str> = words.iter().map(String::as_str).collect();
     let answered = match words[..] {
-        ["run" | "damage", ..] if env::var_os(AT_WORK).is_none() => return watched(&words),
+        ["run" | "damage", ..] | ["--host", "run" | "damage", ..]
+            if env::var_os(AT_WORK).is_none() =>
+        {
+            return watched(&words);
+        }
         _ => main_of(&words),
     };
     match answered {
@@ -68,15 +76,23 @@ fn watched(words: &[&str]) -> ExitCode {
 
 fn main_of(words: &[&str]) -> Result<String, String> {
     match words {
-        ["run", options @ ..] => run(&Options::of(options)?),
+        ["--host", words @ ..] => through((host_calls, "the calls for hosts"), words),
+        _ => through((c_call, "the C call its_trace"), words),
+    }
+}
+
+fn through(way: Way, words: &[&str]) -> Result<String, String> {
+    let (call, _) = way;
+    match words {
+        ["run", options @ ..] => run(way, &Options::of(options)?),
         ["damage", options @ ..] => {
             let options = Options::of(options)?;
-            damage::damage(c_call, options.from, options.traces)
+            damage::damage(call, options.from, options.traces)
         }
         ["recorded", folders @ ..] if !folders.is_empty() => {
             let mut text = String::new();
             for folder in folders {
-                let traces = recorded::recorded(c_call, Path::new(folder))?;
+                let traces = recorded::recorded(call, Path::new(folder))?;
                 text += &format!("{traces} recorded traces of {folder} answered as expected\n");
             }
             Ok(text)
@@ -85,31 +101,34 @@ fn main_of(words: &[&str]) -> Result<String, String> {
             let mut trace = Vec::new();
             let read = io::stdin().read_to_end(&mut trace);
             read.map_err(|error| format!("standard input: {error}"))?;
-            answer(&trace)
+            answer(call, &trace)
         }
-        ["answer", file] => answer(&fs::read(file).map_err(|error| format!("{file}: {error}"))?),
+        ["answer", file] => answer(
+            call,
+            &fs::read(file).map_err(|error| format!("{file}: {error}"))?,
+        ),
         _ => Err(USAGE.into()),
     }
 }
 
 #[cfg(feature = "published")]
-fn run(options: &Options) -> Result<String, String> {
+fn run((call, name): Way, options: &Options) -> Result<String, String> {
     let traces = differential::run::Traces {
         from: options.from,
         count: options.traces,
         exhaustive: options.exhaustive,
     };
-    differential::run::run(c_call, &traces)
+    differential::run::run(call, name, &traces)
 }
 
 #[cfg(not(feature = "published"))]
-fn run(_: &Options) -> Result<String, String> {
+fn run(_: Way, _: &Options) -> Result<String, String> {
     Err("built without the published Rust: nothing to compare with".into())
 }
 
-fn answer(trace: &[u8]) -> Result<String, String> {
+fn answer(call: Call, trace: &[u8]) -> Result<String, String> {
     let mut output = vec![0; oracle::room::MOST_OUTPUT];
-    let number = c_call(trace, &mut output);
+    let number = call(trace, &mut output);
     let written = io::stdout().write_all(&output[..(number / 16) as usize]);
     written.map_err(|error| format!("standard output: {error}"))?;
     Ok(String::new())

@@ -45,8 +45,9 @@ impl Compared {
     }
 }
 
-/// Compares, and gives what to print; an error is a difference.
-pub fn run(call: Call, traces: &Traces) -> Result<String, String> {
+/// Compares, and gives what to print, in which the call has this name; an error
+/// is a difference.
+pub fn run(call: Call, name: &str, traces: &Traces) -> Result<String, String> {
     let named: Vec<exhaustive::Named> = if traces.exhaustive {
         exhaustive::traces().collect()
     } else {
@@ -60,7 +61,7 @@ pub fn run(call: Call, traces: &Traces) -> Result<String, String> {
         let mut lent = Lent::default();
         while let Some(number) = numbers.next() {
             let clock = Instant::now();
-            let (name, trace) = match number.checked_sub(named.len() as u64) {
+            let (title, trace) = match number.checked_sub(named.len() as u64) {
                 None => named[number as usize].clone(),
                 Some(seed) => {
                     let seed = traces.from.wrapping_add(seed);
@@ -68,7 +69,7 @@ pub fn run(call: Call, traces: &Traces) -> Result<String, String> {
                 }
             };
             compared.making += clock.elapsed();
-            note.begin(&name);
+            note.begin(&title);
             let clock = Instant::now();
             let rust = compared.coverage.trace(&trace);
             compared.rust += clock.elapsed();
@@ -78,7 +79,7 @@ pub fn run(call: Call, traces: &Traces) -> Result<String, String> {
             if other.is_some() {
                 let mut first = found.lock().expect("no worker panics");
                 if first.as_ref().is_none_or(|(earlier, ..)| number < *earlier) {
-                    *first = Some((number, name, trace));
+                    *first = Some((number, title, trace));
                 }
                 numbers.stop();
                 break;
@@ -89,14 +90,14 @@ pub fn run(call: Call, traces: &Traces) -> Result<String, String> {
         }
         compared
     });
-    if let Some((_, name, trace)) = found.into_inner().expect("no worker panics") {
-        return Err(shrunk(call, &name, &trace));
+    if let Some((_, title, trace)) = found.into_inner().expect("no worker panics") {
+        return Err(shrunk(call, &title, &trace));
     }
     let mut all = Compared::default();
     for compared in &ended {
         all.absorb(compared);
     }
-    Ok(all.summary(traces, named.len() as u64, begun.elapsed()))
+    Ok(all.summary(name, traces, named.len() as u64, begun.elapsed()))
 }
 
 /// The report on a trace that differs: its name, and the shortest trace found
@@ -133,7 +134,7 @@ impl Compared {
         }
     }
 
-    fn summary(&self, traces: &Traces, exhaustive: u64, took: Duration) -> String {
+    fn summary(&self, call: &str, traces: &Traces, exhaustive: u64, took: Duration) -> String {
         let last = traces.from.wrapping_add(traces.count.saturating_sub(1));
         let missing = self.coverage.missing();
         let reached = if missing.is_empty() {
@@ -142,7 +143,7 @@ impl Compared {
             format!("Never reached: {}.", missing.join("; "))
         };
         format!(
-            "Compared: the C call its_trace, compiled for this machine, with the published Rust, in one\n\
+            "Compared: {call}, compiled for this machine, with the published Rust, in one\n\
              process: every line, the number returned, and that no byte beyond the written ones changed.\n\
              {} traces of seeds {} to {last}, {} exhaustive traces; {} bytes of trace, {} lines,\n\
              {} commands carried out: 0 differences, {:.1} s.\n\

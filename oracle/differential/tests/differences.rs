@@ -16,7 +16,7 @@ fn found(call: fn(&[u8], &mut [u8]) -> u64, seeds: u64) -> String {
         count: seeds,
         exhaustive: false,
     };
-    run(call, &traces).expect_err("the planted fault is found")
+    run(call, "a call", &traces).expect_err("the planted fault is found")
 }
 
 /// The lines of the trace in a report.
@@ -33,7 +33,7 @@ fn the_real_call_has_no_difference() {
         count: 300,
         exhaustive: false,
     };
-    let summary = run(c_call, &traces).expect("no difference");
+    let summary = run(c_call, "the call", &traces).expect("no difference");
     assert!(
         summary.contains("300 traces of seeds 0 to 299"),
         "{summary}"

@@ -1,35 +1,16 @@
--- `its::read_its` meets its contract: the verdict, and then what is read.
+-- `its::read_its` meets its contract: a read depends on the configuration and the registers alone.
 -- Assumes nothing.
 use borrow.Author.Needs.{needs}
-use Rattle.its.proofs.Bare.{reads, refuses}
+use mathlib.Core.Path.{_∙_}
+use Rattle.its.proofs.Bare.{same-read}
 use Rattle.its.proofs.read_its.Statement.{statement}
 use Rattle.its.proofs.read_its.Tie as tie
 
-check-read-requires : tie.Need-check-read-requires
-check-read-requires c κs = search needs
-
-enum-told : tie.Need-enum-told
-enum-told c = search needs
-
-read-register-requires : tie.Need-read-register-requires
-read-register-requires c κs = search needs
-
-enum-known-verdict : tie.Need-enum-known-verdict
-enum-known-verdict c = search needs
+read-from-requires : tie.Need-read-from-requires
+read-from-requires c κs = search needs
 
 returns : tie.Need-returns
-returns c = let a = c .before .before .before .before .before .before .args in reads (a .unit) (a .offset) (a .width) (c .before .before .before .check-read .ensures) (c .before .enum-told .given .1) (c .read-register .ensures)
-
-returns-2 : tie.Need-returns-2
-returns-2 c = let a = c .before .before .before .before .before .before .args in refuses (a .unit) (a .offset) (a .width) (c .before .before .before .check-read .ensures) (c .before .verdict .given .1)
+returns c = let a = c .before .before .before .args in c .read-from .ensures ∙ same-read (a .unit) (a .offset) (a .width)
 
 pub read-its-spec : {M : Type 1} → statement M
-read-its-spec =
-    tie.close
-    (tie.spec
-    check-read-requires
-    enum-told
-    read-register-requires
-    enum-known-verdict
-    returns
-    returns-2)
+read-its-spec = tie.close (tie.spec read-from-requires returns)

@@ -1,0 +1,77 @@
+-- `carries::map_collection` meets its contract: the collection and its translations dropped, or the processor looked at first and then a record stored where there is room.
+-- Assumes nothing.
+use borrow.Author.Needs.{needs}
+use mathlib.Core.Path.{sym, _∙_}
+use borrow.Author.Tests.{not-true, not-false}
+use Rattle.numbers.specs.Unit.{unitIn}
+use Rattle.carries.proofs.Steps.{sized, collection-drops, processor-unlisted, collection-full, collection-stores}
+use Rattle.carries.proofs.map_collection.Statement.{statement}
+use Rattle.carries.proofs.map_collection.Tie as tie
+
+drop-collections-requires : tie.Need-drop-collections-requires
+drop-collections-requires c κs = search needs
+
+drop-translations-in-requires : tie.Need-drop-translations-in-requires
+drop-translations-in-requires c κs = search needs
+
+returns : tie.Need-returns
+returns c =
+    let d = c .before .before in
+    let i = d .before .before in
+    let a = i .before .args in
+    let u = unitIn (a .state .now) in
+    rw (not-true (a .valid) (i .if1 .taken)) (collection-drops u (sized (a .state .now)) (a .collection) (a .target) (d .drop-collections .ensures) (c .drop-translations-in .ensures))
+
+is-listed-requires : tie.Need-is-listed-requires
+is-listed-requires c κs = search needs
+
+returns-2 : tie.Need-returns-2
+returns-2 c =
+    let l = c .before in
+    let i = l .before .before in
+    let a = i .before .args in
+    let u = unitIn (a .state .now) in
+    rw (not-false (a .valid) (i .if1 .left)) (processor-unlisted u (sized (a .state .now)) (a .collection) (a .target) (sym (l .is-listed .ensures) ∙ not-true _ (c .if2 .taken)))
+
+place-of-collection-requires : tie.Need-place-of-collection-requires
+place-of-collection-requires c κs = search needs
+
+returns-3 : tie.Need-returns-3
+returns-3 c =
+    let p = c .before in
+    let k = p .before .before in
+    let l = k .before in
+    let i = l .before .before in
+    let a = i .before .args in
+    let u = unitIn (a .state .now) in
+    rw (not-false (a .valid) (i .if1 .left))
+    (collection-full u (sized (a .state .now)) (a .collection) (a .target) (sym (l .is-listed .ensures) ∙ not-false _ (k .if2 .left)) (p .place-of-collection .ensures) (c .if3 .taken))
+
+put-collection-requires : tie.Need-put-collection-requires
+put-collection-requires c κs = search needs
+
+returns-4 : tie.Need-returns-4
+returns-4 c =
+    let t = c .before .before in
+    let p = t .before in
+    let k = p .before .before in
+    let l = k .before in
+    let i = l .before .before in
+    let a = i .before .args in
+    let u = unitIn (a .state .now) in
+    rw (not-false (a .valid) (i .if1 .left))
+    (collection-stores u (sized (a .state .now)) (a .collection) (a .target) (sym (l .is-listed .ensures) ∙ not-false _ (k .if2 .left)) (p .place-of-collection .ensures) (t .if3 .left) (c .put-collection .ensures))
+
+pub map-collection-spec : {M : Type 1} → statement M
+map-collection-spec =
+    tie.close
+    (tie.spec
+    drop-collections-requires
+    drop-translations-in-requires
+    returns
+    is-listed-requires
+    returns-2
+    place-of-collection-requires
+    returns-3
+    put-collection-requires
+    returns-4)

@@ -1,0 +1,265 @@
+// The unit as numbers that a host owns and lends: 608 words, which hold the unit that specs/Unit.antt says. No word of it is copied to change
+// one of them. Here are its parts; records.rt has the searches and drops.
+pub mod records;
+
+use model::CollectionId;
+use model::EventId;
+use model::GicVcpuId;
+use model::ItsCollection;
+use model::ItsConfig;
+use model::ItsDevice;
+use model::ItsDeviceId;
+use model::ItsRegisters;
+use model::LpiId;
+use model::Translation;
+ghost use mathlib.Core.Path.{_≡_};
+ghost use Prim.Native.Nat.{_*_, _+_, _%_, _^_, _<_};
+ghost use lib.ListN.{length, set};
+ghost use Rattle.model.specs.Choose.{if_then_else_};
+ghost use Rattle.model.specs.Step.{withDevices, withCollections, withTranslations};
+ghost use Rattle.model.specs.Queue.{withRegisters, pastCommand};
+ghost use Rattle.numbers.specs.Unit.{isUsed, processorIn, deviceIn, collectionIn, translationIn, word, configIn, registersIn, devicesIn, collectionsIn, translationsIn, unitIn, withConfig, withProcessors};
+
+fn low32(w: u64) -> u32
+    ensures { λ r. ⌜ r ≡ w % 2 ^ 32 ⌝ }
+{
+    (w % 0x1_0000_0000) as u32
+}
+
+fn low16(w: u64) -> u16
+    ensures { λ r. ⌜ r ≡ w % 2 ^ 16 ⌝ }
+{
+    (w % 0x1_0000) as u16
+}
+
+fn processor_in(w: u64) -> GicVcpuId
+    ensures { λ r. ⌜ r ≡ processorIn w ⌝ }
+{
+    GicVcpuId(low16(w))
+}
+
+// Whether a record is used.
+pub fn is_used(w: u64) -> bool
+    ensures { λ r. ⌜ r ≡ isUsed w ⌝ }
+{
+    0x8000_0000_0000_0000 <= w
+}
+
+pub fn device_in(w: u64) -> ItsDevice
+    ensures { λ r. ⌜ r ≡ deviceIn w ⌝ }
+{
+    let device = ItsDeviceId(low32(w));
+    let bits = (w / 0x1_0000_0000 % 0x100) as u8;
+    ItsDevice {
+        device: device,
+        event_bits: bits,
+        used: is_used(w),
+    }
+}
+
+pub fn collection_in(w: u64) -> ItsCollection
+    ensures { λ r. ⌜ r ≡ collectionIn w ⌝ }
+{
+    let collection = CollectionId(low16(w));
+    let target = processor_in(w / 0x1_0000);
+    ItsCollection {
+        collection: collection,
+        target: target,
+        used: is_used(w),
+    }
+}
+
+pub fn translation_in(key: u64, goal: u64) -> Translation
+    ensures { λ r. ⌜ r ≡ translationIn key goal ⌝ }
+{
+    let device = ItsDeviceId((key / 0x1_0000_0000) as u32);
+    let event = EventId(low32(key));
+    let lpi = LpiId(low32(goal));
+    let collection = CollectionId(low16(goal / 0x1_0000_0000));
+    Translation {
+        device: device,
+        event: event,
+        lpi: lpi,
+        collection: collection,
+        used: is_used(goal),
+    }
+}
+
+// The words of a record.
+fn used_word(used: bool) -> u64
+    ensures { λ r. ⌜ r ≡ (if used then 2 ^ 63 else 0) ⌝ }
+{
+    if used { 0x8000_0000_0000_0000 } else { 0 }
+}
+
+fn device_word(r: ItsDevice) -> u64
+    ensures { λ w. ⌜ deviceIn w ≡ r ⌝ }
+{
+    used_word(r.used) + (r.event_bits as u64) * 0x1_0000_0000 + r.device.0 as u64
+}
+
+fn collection_word(r: ItsCollection) -> u64
+    ensures { λ w. ⌜ collectionIn w ≡ r ⌝ }
+{
+    used_word(r.used) + (r.target.0 as u64) * 0x1_0000 + r.collection.0 as u64
+}
+
+pub fn key_of(device: ItsDeviceId, event: EventId) -> u64
+    ensures { λ w. ⌜ w ≡ device .0 * 2 ^ 32 + event .0 ⌝ }
+{
+    (device.0 as u64) * 0x1_0000_0000 + event.0 as u64
+}
+
+fn goal_word(r: Translation) -> u64
+    ensures { λ w. ⌜ translationIn (r .device .0 * 2 ^ 32 + r .event .0) w ≡ r ⌝ }
+{
+    used_word(r.used) + (r.collection.0 as u64) * 0x1_0000_0000 + r.lpi.0 as u64
+}
+
+// As many numbers are lent as the unit has: it costs nothing, and a proof of a store has it from here.
+pub fn whole(state: &[u64; 608]) -> usize
+    ensures { λ _. ⌜ length (now (state .entry)) ≡ 608 ⌝ }
+{
+    let all: &[u64] = state;
+    all.len()
+}
+
+// Configuration and registers.
+pub fn config_in(state: &[u64; 608]) -> ItsConfig
+    ensures { λ r. ⌜ r ≡ configIn (now (state .entry)) ⌝ }
+{
+    let processors = [
+        processor_in(state[4]),
+        processor_in(state[5]),
+        processor_in(state[6]),
+        processor_in(state[7]),
+        processor_in(state[8]),
+        processor_in(state[9]),
+        processor_in(state[10]),
+        processor_in(state[11]),
+        processor_in(state[12]),
+        processor_in(state[13]),
+        processor_in(state[14]),
+        processor_in(state[15]),
+        processor_in(state[16]),
+        processor_in(state[17]),
+        processor_in(state[18]),
+        processor_in(state[19]),
+    ];
+    let count = (state[3] % 0x100) as u8;
+    ItsConfig {
+        lpi_limit: low32(state[0]),
+        command_budget: low32(state[1]),
+        frame_size: low32(state[2]),
+        processor_count: count,
+        processors: processors,
+    }
+}
+
+pub fn registers_in(state: &[u64; 608]) -> ItsRegisters
+    ensures { λ r. ⌜ r ≡ registersIn (now (state .entry)) ⌝ }
+{
+    let enabled = state[20] % 2 == 1;
+    let basers = [
+        state[24],
+        state[25],
+        state[26],
+        state[27],
+        state[28],
+        state[29],
+        state[30],
+        state[31],
+    ];
+    ItsRegisters {
+        enabled: enabled,
+        cbaser: state[21],
+        creadr: state[22],
+        cwriter: state[23],
+        basers: basers,
+    }
+}
+
+fn put_processors(state: &mut [u64; 608], processors: [GicVcpuId; 16])
+    ensures { λ _. ⌜ unitIn (now (state .exit)) ≡ withConfig (unitIn (now (state .entry))) (withProcessors (configIn (now (state .entry))) processors) ⌝ }
+{
+    let _all = whole(state);
+    let mut i: usize = 0;
+    while i < 16 {
+        let p = processors[i];
+        state[4 + i] = p.0 as u64;
+        i += 1;
+    }
+}
+
+pub fn put_config(state: &mut [u64; 608], config: ItsConfig)
+    ensures { λ _. ⌜ unitIn (now (state .exit)) ≡ withConfig (unitIn (now (state .entry))) config ⌝ }
+{
+    let _all = whole(state);
+    let processors = config.processors;
+    state[0] = config.lpi_limit as u64;
+    state[1] = config.command_budget as u64;
+    state[2] = config.frame_size as u64;
+    state[3] = config.processor_count as u64;
+    put_processors(state, processors);
+}
+
+pub fn put_registers(state: &mut [u64; 608], registers: ItsRegisters)
+    ensures { λ _. ⌜ unitIn (now (state .exit)) ≡ withRegisters (unitIn (now (state .entry))) registers ⌝ }
+{
+    let _all = whole(state);
+    let basers = registers.basers;
+    let enabled = registers.enabled;
+    state[20] = if enabled { 1 } else { 0 };
+    state[21] = registers.cbaser;
+    state[22] = registers.creadr;
+    state[23] = registers.cwriter;
+    state[24] = basers[0];
+    state[25] = basers[1];
+    state[26] = basers[2];
+    state[27] = basers[3];
+    state[28] = basers[4];
+    state[29] = basers[5];
+    state[30] = basers[6];
+    state[31] = basers[7];
+}
+
+// CREADR passes a command.
+pub fn pass_command(state: &mut [u64; 608])
+    requires { ⌜ word (now state) 22 < 2 ^ 32 ⌝ }
+    ensures { λ _. ⌜ unitIn (now (state .exit)) ≡ withRegisters (unitIn (now (state .entry))) (pastCommand (registersIn (now (state .entry)))) ⌝ }
+{
+    let _all = whole(state);
+    let size = words::queue_size(state[21]);
+    let next = state[22] + 32;
+    state[22] = next % size;
+}
+
+// A record of a table, stored.
+pub fn put_device(state: &mut [u64; 608], place: usize, r: ItsDevice)
+    requires { ⌜ place < 32 ⌝ }
+    ensures { λ _. ⌜ unitIn (now (state .exit)) ≡ withDevices (unitIn (now (state .entry))) (set (devicesIn (now (state .entry))) place r) ⌝ }
+{
+    let _all = whole(state);
+    let w = device_word(r);
+    state[32 + place] = w;
+}
+
+pub fn put_collection(state: &mut [u64; 608], place: usize, r: ItsCollection)
+    requires { ⌜ place < 32 ⌝ }
+    ensures { λ _. ⌜ unitIn (now (state .exit)) ≡ withCollections (unitIn (now (state .entry))) (set (collectionsIn (now (state .entry))) place r) ⌝ }
+{
+    let _all = whole(state);
+    let w = collection_word(r);
+    state[64 + place] = w;
+}
+
+pub fn put_translation(state: &mut [u64; 608], place: usize, r: Translation)
+    requires { ⌜ place < 256 ⌝ }
+    ensures { λ _. ⌜ unitIn (now (state .exit)) ≡ withTranslations (unitIn (now (state .entry))) (set (translationsIn (now (state .entry))) place r) ⌝ }
+{
+    let _all = whole(state);
+    let key = key_of(r.device, r.event);
+    let goal = goal_word(r);
+    state[96 + place] = key;
+    state[352 + place] = goal;
+}

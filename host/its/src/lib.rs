@@ -1,0 +1,96 @@
+//! The proved ITS for a host in Rust.
+//!
+//! [`Its`] is a unit; the host owns it, and lends it to each call. No call keeps
+//! a pointer, allocates or blocks, and each of them answers whatever it is given.
+//! Numbers of different kinds have different types, so that no call takes an
+//! event for a device or an LPI for a processor.
+#![no_std]
+
+mod calls;
+pub mod command;
+mod numbers;
+mod refusal;
+
+pub use numbers::{Action, CollectionId, Configuration, DeviceId, EventId, Lpi, Processor, Window};
+pub use refusal::{Refusal, WriteRefused};
+
+/// How many words a unit is.
+pub const WORDS: usize = 608;
+
+/// An action row that is long enough for any command budget.
+pub type Row = [Action; 1024];
+
+/// A unit. Until a configuration is accepted every call is refused with 1.
+#[derive(Clone, Debug)]
+#[repr(C)]
+pub struct Its([u64; WORDS]);
+
+/// Where a message goes.
+#[derive(Clone, Copy, Debug, Eq, PartialEq)]
+pub struct Delivery {
+    pub lpi: Lpi,
+    pub processor: Processor,
+}
+
+/// What a write did.
+#[derive(Clone, Copy, Debug, Eq, PartialEq)]
+pub struct Written {
+    /// The commands carried out.
+    pub done: u64,
+    /// The actions handed over: the first so many of the row.
+    pub actions: usize,
+}
+
+impl Its {
+    /// A unit that is not configured.
+    #[inline]
+    pub const fn new() -> Self {
+        Self([0; WORDS])
+    }
+
+    /// Makes the unit a fresh one of this configuration, or, where it is
+    /// refused, one that is not configured.
+    #[inline]
+    pub fn configure(&mut self, configuration: &Configuration<'_>) -> Result<(), Refusal> {
+        Refusal::of(calls::configure(&mut self.0, configuration).refusal())
+    }
+
+    /// Reads a register of the frame.
+    #[inline]
+    pub fn read(&self, offset: u64, width: u8) -> Result<u64, Refusal> {
+        let answer = calls::read(&self.0, offset, width);
+        Refusal::of(answer.refusal()).map(|()| answer.value())
+    }
+
+    /// Writes a register of the frame. An enabled unit then runs its queue: it
+    /// reads commands from the window, and puts the actions of INT and CLEAR
+    /// into the row, which must have room for a whole command budget.
+    #[inline]
+    pub fn write(
+        &mut self,
+        window: Window<'_>,
+        row: &mut [Action],
+        offset: u64,
+        width: u8,
+        value: u64,
+    ) -> Result<Written, WriteRefused> {
+        let answer = calls::write(&mut self.0, window, row, offset, width, value);
+        WriteRefused::of(&answer).map(|()| Written {
+            done: answer.done(),
+            actions: answer.actions(),
+        })
+    }
+
+    /// Where a message of this device and event goes.
+    #[inline]
+    pub fn translate(&self, device: DeviceId, event: EventId) -> Result<Delivery, Refusal> {
+        let answer = calls::translate(&self.0, device, event);
+        Refusal::of(answer.refusal()).map(|()| answer.delivery())
+    }
+}
+
+impl Default for Its {
+    fn default() -> Self {
+        Self::new()
+    }
+}

@@ -1,0 +1,76 @@
+#!/bin/sh
+# The calls for hosts, tried as a host uses them: the archive for the machine at hand from C and from Rust; the archives for Linux on Arm and for a
+# bare Arm machine, with the symbols that they need; and the same C program on the bare machine, emulated.
+#   tools/host.sh            all of it
+#   tools/host.sh replay FILE ..   the lines of traces, through the example host
+# Where the emulator is not at hand it is installed (Debian's qemu-system-arm); if that fails this says so, and the archive is linked only.
+set -eu
+root=$(cd "$(dirname "$0")/.." && pwd)
+cd "$root"
+say() { echo "host: $*"; }
+archive() { tools/archive.sh "$@" host | tail -n 1; }
+
+native=$(archive)
+ITS_ARCHIVE=$(dirname "$native")
+export ITS_ARCHIVE CARGO_TARGET_DIR=host/target
+rust() { cargo "$@" --manifest-path host/Cargo.toml --offline --quiet --release; }
+if [ "${1:-}" = replay ]; then
+    shift
+    rust build >&2
+    exec host/target/release/replay "$@"
+fi
+[ $# -eq 0 ] || { echo "usage: tools/host.sh [replay FILE ..]" >&2; exit 2; }
+
+made=$(mktemp -d)
+trap 'rm -rf "$made"' EXIT
+
+say "C, on this machine"
+gcc -std=c11 -Wall -Wextra -Wpedantic -Werror -O2 -Iinclude host/c/visit.c host/c/linux.c "$native" -o "$made/visit"
+"$made/visit"
+
+say "Rust, on this machine"
+rust test >"$made/log" 2>&1 || { cat "$made/log"; exit 1; }
+awk '/^test result/ { passed += $4 } END { print passed " tests passed" }' "$made/log"
+
+# What an archive needs of its host, and what it gives.
+symbols() {
+    readelf -sW "$1" | awk '$5 == "GLOBAL" && $7 == "UND" && $8 != "" { print $8 }' | sort -u
+}
+given() {
+    readelf -sW "$1" | awk '$5 == "GLOBAL" && $7 != "UND" && $8 ~ /^its_/ { print $8 }' | sort -u
+}
+needs() {
+    for symbol in $(symbols "$2"); do
+        case $symbol in
+        memcpy | memmove | memset) ;;
+        *) say "$1 needs $symbol, which no host is told of" && return 1 ;;
+        esac
+    done
+    calls=$(given "$2" | tr '\n' ' ')
+    [ "$calls" = "its_configure its_read its_translate its_write " ] || { say "$1 gives $calls" && return 1; }
+    say "$1 gives ${calls}and needs $(symbols "$2" | tr '\n' ' ')"
+}
+needs "the archive for this machine" "$native"
+needs "the archive for Linux on Arm" "$(archive --target aarch64)"
+bare=$(archive --target aarch64-none)
+needs "the archive for a bare Arm machine" "$bare"
+
+say "the bare Arm machine"
+rt=$(readlink -f "$(command -v rt)")
+tools=${RATTLE_HOME:-$(dirname "$rt")/..}/on/$(uname -m)/toolchain/bin
+for part in start.S bare.c visit.c; do
+    "$tools/clang" --target=aarch64-none-elf -ffreestanding -fno-builtin -isystem "$(gcc -print-file-name=include)" -Iinclude -Wall -Wextra \
+        -Werror -O2 -c "host/c/$part" -o "$made/$part.o"
+done
+"$tools/ld.lld" -static --gc-sections -e _start -Ttext=0x40080000 "$made"/*.o "$bare" -o "$made/visit.elf"
+emulator=qemu-system-aarch64
+if ! command -v "$emulator" >/dev/null; then
+    { apt-get update && apt-get install -y --no-install-recommends qemu-system-arm; } >"$made/log" 2>&1 || true
+fi
+if command -v "$emulator" >/dev/null; then
+    timeout 60 "$emulator" -M virt -cpu cortex-a72 -m 64 -nographic -nic none -monitor none -serial none \
+        -semihosting-config enable=on,target=native -kernel "$made/visit.elf"
+else
+    say "linked; not run, since $emulator is not at hand and could not be installed"
+fi
+say "done"
