@@ -3,6 +3,7 @@
 use Rattle.guarantees.specs.Theorems.{Theorems}
 use Rattle.guarantees.proofs.Firmness.{firm-entries, answered-entries, lent-writes}
 use Rattle.guarantees.proofs.InForce.{mappings-in-force}
+use Rattle.guarantees.proofs.ByCalls.{calls-in-force}
 use Rattle.guarantees.proofs.Counts.{write-keeps, done-count}
 use Rattle.guarantees.proofs.Leaves.{row-keeps, refusal-leaves, read-leaves, translate-leaves}
 use Rattle.guarantees.proofs.Unsound.{unsound-answers-1, no-unit-answers-1, refused-configuration}
@@ -13,6 +14,7 @@ pub theorems : Theorems
 theorems =
     record {
       mappings-in-force = mappings-in-force;
+      calls-in-force = calls-in-force;
       answered-entries = answered-entries;
       firm-entries = firm-entries;
       lent-writes = lent-writes;

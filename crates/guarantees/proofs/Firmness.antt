@@ -3,8 +3,9 @@
 -- Assumes nothing.
 use Prim.Native.Nat.{ℕ}
 use mathlib.Core.Path.{_≡_, refl, sym, ap, ap₂, _∙_}
-use mathlib.Core.List.{List, _++_}
-use lib.ListN.{take, drop}
+use mathlib.Core.List.{List, _++_, map}
+use lib.ListN.{length, getD, take, drop}
+use Rattle.model.specs.Refusal.{verdictNumber}
 use Rattle.model.specs.declared.ItsDeviceId.{ItsDeviceId}
 use Rattle.model.specs.declared.EventId.{EventId}
 use Rattle.model.specs.declared.ItsConfig.{ItsConfig}
@@ -19,7 +20,9 @@ use Rattle.model.specs.Trace.{lentRow, returned, outputAfter}
 use Rattle.model.specs.Entry.{Outcome, configure, read, write, translate}
 use Rattle.its.specs.declared.WrittenRow.{WrittenRow}
 use Rattle.its.specs.Contracts.{NoUnit, Configures, Reads, Writes, besideRow, WritesLent, Translates}
-use Rattle.guarantees.specs.Firm.{Answered, Firm, WritesBoth, OfEveryEntry, TraceOutcome, TracedBoth}
+use Rattle.its.specs.Prepared.{prepared}
+use Rattle.host.specs.Calls.{Tells, numbersOfVerdict, numbersOfRead, numbersOfWrite, numbersOfTranslation, configGiven, actionIn, rowWith, handedAfter, CallConfigures}
+use Rattle.guarantees.specs.Firm.{Answered, Firm, WritesBoth, OfEveryEntry, TraceOutcome, TracedBoth, Told, ToldWithUnit, ToldWithRow, CallWritesAll}
 
 -- what is equal to one thing
 only-one : {A : Type 0} (x : A) → Firm A (λ a. a ≡ x)
@@ -59,10 +62,25 @@ lent-writes w room u offset width value r e =
 pub firm-trace : (trace out : List ℕ) → Firm TraceOutcome (TracedBoth trace out)
 firm-trace trace out a b p q = ap₂ (λ n left. record { number = n; output = left }) (p .0 ∙ sym (q .0)) (p .1 ∙ sym (q .1))
 
+-- of the C calls for hosts: each number, the unit and the row by its own equation
+pub firm-told : (numbers : List ℕ) → Firm Told (λ o. Tells numbers (o .number) (o .told))
+firm-told numbers a b p q = ap₂ (λ n t. record { number = n; told = t }) (p .1 ∙ sym (q .1)) (p .0 ∙ sym (q .0))
+
+pub firm-call-configure : (limit budget frame : ℕ) (ps : List ℕ) → Firm ToldWithUnit (λ o. CallConfigures limit budget frame ps (o .unit) (o .number) (o .told))
+firm-call-configure limit budget frame ps a b p q =
+    let same = firm-told (numbersOfVerdict (configure (configGiven limit budget frame ps))) (record { number = a .number; told = a .told }) (record { number = b .number; told = b .told }) (p .1) (q .1) in
+    ap₂ (λ o u. record { number = o .number; told = o .told; unit = u }) same (p .0 ∙ sym (q .0))
+
+pub firm-call-write : (w : Window) (row : List ℕ) (u : ItsState) (offset width value : ℕ) → Firm ToldWithRow (CallWritesAll w row u offset width value)
+firm-call-write w row u offset width value a b p q =
+    let same = firm-told (numbersOfWrite (write w (map actionIn row) u offset width value .written .answer)) (record { number = a .number; told = a .told }) (record { number = b .number; told = b .told }) (p .1 .1) (q .1 .1) in
+    ap₂ (λ (o : Told) (z : ItsState × List ℕ). record { number = o .number; told = o .told; unit = z .0; row = z .1 }) same
+    (ap₂ (λ v r. (v, r)) (p .0 ∙ sym (q .0)) (p .1 .0 ∙ sym (q .1 .0)))
+
 -- THE THEOREMS.
 pub firm-entries : OfEveryEntry Firm
 firm-entries =
-    record { «no_unit» = firm-no-unit; configure = firm-configure; «read_its» = firm-read; «write_its» = firm-write; «write_lent» = firm-write-lent; translate = firm-translate; «its_trace» = firm-trace }
+    record { «no_unit» = firm-no-unit; configure = firm-configure; «read_its» = firm-read; «write_its» = firm-write; «write_lent» = firm-write-lent; translate = firm-translate; «its_trace» = firm-trace; «its_configure» = firm-call-configure; «its_read» = λ u offset width. firm-told _; «its_write» = firm-call-write; «its_translate» = λ u device event. firm-told _ }
 
 pub answered-entries : OfEveryEntry Answered
 answered-entries =
@@ -74,4 +92,19 @@ answered-entries =
       «write_lent» = λ w room u offset width value. (lent w room u offset width value, refl);
       translate = λ u d e. (translate u d e, refl);
       «its_trace» = λ trace out. (record { number = returned trace out; output = outputAfter trace out }, (refl, refl));
+      «its_configure» = λ limit budget frame ps.
+          let c = configure (configGiven limit budget frame ps) in
+          (record { number = verdictNumber (c .verdict); told = numbersOfVerdict c; unit = c .unit }, (refl, (refl, refl)));
+      «its_read» = λ u offset width.
+          let n = numbersOfRead (read u offset width) in
+          (record { number = getD n 0 0; told = n }, (refl, refl));
+      «its_write» = λ w row u offset width value.
+          let o = write w (map actionIn row) u offset width value in
+          let n = numbersOfWrite (o .written .answer) in (
+            record { number = getD n 0 0; told = n; unit = o .written .unit; row = rowWith (handedAfter w (prepared u (length row) offset width value)) row },
+            (refl, (refl, (refl, refl))),
+          );
+      «its_translate» = λ u device event.
+          let n = numbersOfTranslation (translate u (record { 0 = device }) (record { 0 = event })) in
+          (record { number = getD n 0 0; told = n }, (refl, refl));
     }

@@ -1,5 +1,6 @@
 pub mod Firmness
 pub mod InForce
+pub mod ByCalls
 pub mod Reasons
 pub mod Hands
 pub mod Ways

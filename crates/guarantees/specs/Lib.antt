@@ -1,5 +1,6 @@
 pub mod Firm
 pub mod MappingsInForce
+pub mod CallsInForce
 pub mod Handed
 pub mod DoneCount
 pub mod Refusals

@@ -27,6 +27,7 @@ use Rattle.model.specs.Demand3.{registersStored, storesBase, letsRun, WriteKeep
 use Rattle.its.specs.declared.WrittenRow.{WrittenRow}
 use Rattle.its.specs.Contracts.{NoUnit, Configures, Reads, Writes, WritesLent, Translates}
 use Rattle.guarantees.specs.Firm.{Answered, Firm, OfEveryEntry}
+use Rattle.guarantees.specs.CallsInForce.{LedByCalls, CallsInForce}
 use Rattle.guarantees.specs.MappingsInForce.{Led, MappingsInForce}
 use Rattle.guarantees.specs.Handed.{RowKeeps}
 use Rattle.guarantees.specs.DoneCount.{DoneCount}
@@ -42,6 +43,8 @@ OfEveryWrite P =
 pub record Theorems : Type 0 where
   -- DEMAND 3 (MappingsInForce): of every unit to which calls led from an accepted configuration
   pub mappings-in-force : {k : ItsConfig} {u : ItsState} {h : List Command} → Led k u h → MappingsInForce k u h
+  -- DEMAND 3 in the numbers that the C calls for hosts tell (CallsInForce): of all numbers to which such calls led
+  pub calls-in-force : {k : ItsConfig} {u : ItsState} {h : List Command} → LedByCalls k u h → CallsInForce k u h
   -- FIRMNESS (Firm): of every public entry, at all inputs, an answer meets the contract
   pub answered-entries : OfEveryEntry Answered
   -- and any second one is equal to it
