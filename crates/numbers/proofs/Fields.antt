@@ -4,8 +4,10 @@ use Prim.Native.Nat.{ℕ, _+_, _*_, _/_, _%_, _^_, _≤_, _<_}
 use native.Mathlib.Omega.{arith}
 use mathlib.Core.Path.{_≡_, refl}
 use mathlib.Core.Bool.{Bool, true, false, _&&_}
+use mathlib.Core.List.{[], _∷_}
 use lib.Dec.{eqb}
 use borrow.Author.Tests.{le-leb, lt-leb, eqb-true, eqb-false, eq-eqb, ne-eqb}
+use Rattle.model.specs.declared.GicVcpuId.{GicVcpuId}
 use Rattle.model.specs.declared.ItsDeviceId.{ItsDeviceId}
 use Rattle.model.specs.declared.EventId.{EventId}
 use Rattle.model.specs.declared.ItsDevice.{ItsDevice}
@@ -14,7 +16,7 @@ use Rattle.model.specs.declared.Translation.{Translation}
 use Rattle.model.specs.Choose.{if_then_else_}
 use Rattle.model.specs.Keys.{noDevice, noCollection, noTranslation}
 use Rattle.model.proofs.Cases.{cases}
-use Rattle.numbers.specs.Unit.{isUsed, deviceIn, collectionIn, translationIn}
+use Rattle.numbers.specs.Unit.{isUsed, processorIn, processorAt, rows, deviceIn, collectionIn, translationIn}
 
 -- the highest bit
 abbrev pub high : Bool → ℕ
@@ -48,6 +50,18 @@ low16-is false x y h = omega arith
 second16-is : (u : Bool) (x y : ℕ) → y < 2 ^ 16 → x < 2 ^ 16 → (high u + x * 2 ^ 16 + y) / 2 ^ 16 % 2 ^ 16 ≡ x
 second16-is true x y h k = omega arith
 second16-is false x y h k = omega arith
+
+packed0 : (a b c d : ℕ) → a < 2 ^ 16 → (d * 2 ^ 48 + c * 2 ^ 32 + b * 2 ^ 16 + a) / 1 % 2 ^ 16 ≡ a
+packed0 a b c d ha = omega arith
+
+packed1 : (a b c d : ℕ) → a < 2 ^ 16 → b < 2 ^ 16 → (d * 2 ^ 48 + c * 2 ^ 32 + b * 2 ^ 16 + a) / 2 ^ 16 % 2 ^ 16 ≡ b
+packed1 a b c d ha hb = omega arith
+
+packed2 : (a b c d : ℕ) → a < 2 ^ 16 → b < 2 ^ 16 → c < 2 ^ 16 → (d * 2 ^ 48 + c * 2 ^ 32 + b * 2 ^ 16 + a) / 2 ^ 32 % 2 ^ 16 ≡ c
+packed2 a b c d ha hb hc = omega arith
+
+packed3 : (a b c d : ℕ) → a < 2 ^ 16 → b < 2 ^ 16 → c < 2 ^ 16 → d < 2 ^ 16 → (d * 2 ^ 48 + c * 2 ^ 32 + b * 2 ^ 16 + a) / 2 ^ 48 % 2 ^ 16 ≡ d
+packed3 a b c d ha hb hc hd = omega arith
 
 -- the words of the records
 pub device-made : (r : ItsDevice) → r .device .0 < 2 ^ 32 → r .«event_bits» < 2 ^ 8 →
@@ -86,6 +100,22 @@ goal-made r e h k =
       low32-is (r .used) (r .collection .0) (r .lpi .0) h,
       next16-is (r .used) (r .collection .0) (r .lpi .0) h k,
       used-is (r .used) (r .collection .0 * 2 ^ 32) (r .lpi .0) (omega arith),
+    )
+
+-- four processors in a word
+pub first-at : (w : ℕ) → processorAt w 0 ≡ processorIn w
+first-at w =
+    let e : w / 1 ≡ w = omega arith in
+    rw e
+
+pub four-packed : (a b c d : GicVcpuId) → a .0 < 2 ^ 16 → b .0 < 2 ^ 16 → c .0 < 2 ^ 16 → d .0 < 2 ^ 16 →
+    rows 4 (processorAt (d .0 * 2 ^ 48 + c .0 * 2 ^ 32 + b .0 * 2 ^ 16 + a .0)) ≡ (a ∷ b ∷ c ∷ d ∷ [])
+four-packed a b c d ha hb hc hd =
+    rw (
+      packed0 (a .0) (b .0) (c .0) (d .0) ha,
+      packed1 (a .0) (b .0) (c .0) (d .0) ha hb,
+      packed2 (a .0) (b .0) (c .0) (d .0) ha hb hc,
+      packed3 (a .0) (b .0) (c .0) (d .0) ha hb hc hd,
     )
 
 -- a key's halves are the device and the event

@@ -4,21 +4,19 @@ use Prim.Native.Nat.{ℕ, zero, suc, _+_, _%_, _^_, _≤_, _<_}
 use native.Mathlib.Omega.{arith}
 use mathlib.Core.Path.{_≡_, refl, ap, _∙_}
 use mathlib.Core.Bool.{Bool, true, false}
-use mathlib.Core.List.{List, [], _∷_}
+use mathlib.Core.List.{List, [], _∷_, _++_}
 use mathlib.Core.Logic.{_⊎_, inl, inr}
-use lib.Dec.{eqb, ltb}
-use lib.ListN.{length, getD, set, length-set}
+use lib.Dec.{eqb}
+use lib.ListN.{length, getD, set}
 use lib.Seq.{getD-set-same, getD-set-other, sets}
-use borrow.Author.Tests.{ltb-true, ltb-false, eqb-true, eqb-false}
 use Rattle.model.specs.Choose.{if_then_else_}
-use Rattle.model.proofs.Cases.{cases}
 use Rattle.model.specs.declared.GicVcpuId.{GicVcpuId}
 use Rattle.model.specs.declared.ItsConfig.{ItsConfig}
 use Rattle.model.specs.declared.ItsRegisters.{ItsRegisters}
 use Rattle.model.specs.Queue.{withRegisters, pastCommand}
-use Rattle.numbers.specs.Unit.{processorIn, word, configIn, registersIn, unitIn, withConfig, withProcessors}
+use Rattle.numbers.specs.Unit.{processorAt, word, rows, configIn, registersIn, unitIn, withConfig, withProcessors}
 use Rattle.numbers.proofs.Rows.{rows-same, rows-list, sets-other, sets-at}
-use Rattle.numbers.proofs.Stores.{Agree, agree-set, agree-twice, unit-is, config-same, registers-same, devices-same, collections-same, translations-same}
+use Rattle.numbers.proofs.Stores.{Agree, agree-set, unit-is, config-same, registers-same, devices-same, collections-same, translations-same}
 
 -- the registers' twelve numbers
 abbrev pub numbersOf : ℕ → ItsRegisters → List ℕ
@@ -114,64 +112,49 @@ config-is a b c d e = rw (a, b, c, d, e)
 pub onto : {A : Type 0} {a b : A} {l m : List A} → a ≡ b → l ≡ m → (a ∷ l) ≡ (b ∷ m)
 onto e f = rw (e, f)
 
--- The processors, before number i.
-pub record Lists (ps : List GicVcpuId) (s : List ℕ) (i : ℕ) (t : List ℕ) : Type 0 where
-  pub long : length t ≡ 608
-  pub inside : i ≤ 16
-  pub firsts : Agree 0 4 s t
-  pub others : Agree 20 608 s t
-  pub so-far : (j : ℕ) → j < i → word t (4 + j) % 2 ^ 16 ≡ getD ps j (record { 0 = 0 }) .0
+-- The processors, in four numbers.
 
-pub lists-starts : (ps : List GicVcpuId) (s : List ℕ) → length s ≡ 608 → Lists ps s 0 s
-lists-starts ps s long =
-    record {
-      long = long;
-      inside = omega arith;
-      firsts = record { at = λ j l m. refl };
-      others = record { at = λ j l m. refl };
-      so-far = λ j l. absurd (omega arith);
-    }
+-- the four in a number
+abbrev fourIn : ℕ → List GicVcpuId
+fourIn w = rows 4 (processorAt w)
 
-module _ {ps : List GicVcpuId} {s t : List ℕ} {i : ℕ} (f : Lists ps s i t) where
-  module _ (h : i < 16) (w : ℕ) (l : w < 2 ^ 16) (e : w ≡ getD ps i (record { 0 = 0 }) .0) where
-    off : (j : ℕ) → (j ≡ 4 + i → ⊥) → word (set t (4 + i) w) j ≡ word t j
-    off j n = getD-set-other t (4 + i) j w 0 n
+joined : {a a′ b b′ c c′ d d′ : List GicVcpuId} → a ≡ a′ → b ≡ b′ → c ≡ c′ → d ≡ d′ → (a ++ (b ++ (c ++ d))) ≡ (a′ ++ (b′ ++ (c′ ++ d′)))
+joined ha hb hc hd = rw (ha, hb, hc, hd)
 
-    here : word (set t (4 + i) w) (4 + i) % 2 ^ 16 ≡ getD ps i (record { 0 = 0 }) .0
-    here =
-        let z : w % 2 ^ 16 ≡ w = omega arith in
-        ap (λ v. v % 2 ^ 16) (getD-set-same t (4 + i) w 0 (omega (arith, f .long))) ∙ z ∙ e
+abbrev none : GicVcpuId
+none = record { 0 = 0 }
 
-    upto : (j : ℕ) → j < i + 1 → word (set t (4 + i) w) (4 + j) % 2 ^ 16 ≡ getD ps j (record { 0 = 0 }) .0
-    upto j m =
-        cases (eqb j i) (λ q. let z : j ≡ i = eqb-true j i q in rw z here)
-        (λ q. let n : j < i = cases (ltb j i) (λ z. ltb-true j i z) (λ z. absurd (eqb-false j i q (omega (arith, ltb-false j i z)))) in
-        ap (λ v. v % 2 ^ 16) (off (4 + j) (λ z. eqb-false j i q (omega arith))) ∙ f .so-far j n)
+-- processor j and the three after it
+abbrev fourFrom : List GicVcpuId → ℕ → List GicVcpuId
+fourFrom ps j = getD ps j none ∷ getD ps (j + 1) none ∷ getD ps (j + 2) none ∷ getD ps (j + 3) none ∷ []
 
-    pub lists-on : Lists ps s (i + 1) (set t (4 + i) w)
-    lists-on =
-        record {
-          long = length-set t (4 + i) w ∙ f .long;
-          inside = omega arith;
-          firsts = agree-twice (f .firsts) (agree-set 0 4 t (4 + i) w (inr (omega arith)));
-          others = agree-twice (f .others) (agree-set 20 608 t (4 + i) w (inl (omega arith)));
-          so-far = upto;
-        }
+module _ (s : List ℕ) (long : length s ≡ 608) (ps : List GicVcpuId) (sixteen : length ps ≡ 16) (a b c d : ℕ)
+    (ha : fourIn a ≡ fourFrom ps 0) (hb : fourIn b ≡ fourFrom ps 4) (hc : fourIn c ≡ fourFrom ps 8) (hd : fourIn d ≡ fourFrom ps 12) where
+  abbrev listed : List ℕ
+  listed = sets s 4 (a ∷ b ∷ c ∷ d ∷ [])
 
-  part : (from to : ℕ) → 20 ≤ from → to ≤ 608 → Agree from to s t
-  part from to a b = record { at = λ j l m. f .others .at j (omega arith) (omega arith) }
+  there : (j : ℕ) → j < 4 → word listed (4 + j) ≡ getD (a ∷ b ∷ c ∷ d ∷ []) j 0
+  there j h = sets-at s 4 (a ∷ b ∷ c ∷ d ∷ []) j (omega arith) (omega arith)
 
-  listed : length ps ≡ 16 → 16 ≤ i → configIn t ≡ withProcessors (configIn s) ps
+  outside : (from to : ℕ) → (to ≤ 4) ⊎ (8 ≤ from) → Agree from to s listed
+  outside from to (inl h) = record { at = λ j l m. sets-other s 4 (a ∷ b ∷ c ∷ d ∷ []) j (inl (omega arith)) }
+  outside from to (inr h) = record { at = λ j l m. sets-other s 4 (a ∷ b ∷ c ∷ d ∷ []) j (inr (omega arith)) }
+
+  configured : configIn listed ≡ withProcessors (configIn s) ps
   unfolding configIn
-  listed n h =
-      config-is (ap (λ v. v % 2 ^ 32) (f .firsts .at 0 (omega arith) (omega arith))) (ap (λ v. v % 2 ^ 32) (f .firsts .at 1 (omega arith) (omega arith)))
-      (ap (λ v. v % 2 ^ 32) (f .firsts .at 2 (omega arith) (omega arith))) (ap (λ v. v % 2 ^ 8) (f .firsts .at 3 (omega arith) (omega arith)))
-      (rows-list 16 (λ j. processorIn (word t (4 + j))) ps (record { 0 = 0 }) n (λ j l. ap (λ v. record { 0 = v }) (f .so-far j (omega (arith, f .inside)))))
+  configured =
+      config-is (ap (λ v. v % 2 ^ 32) (firsts .at 0 (omega arith) (omega arith))) (ap (λ v. v % 2 ^ 32) (firsts .at 1 (omega arith) (omega arith)))
+      (ap (λ v. v % 2 ^ 32) (firsts .at 2 (omega arith) (omega arith))) (ap (λ v. v % 2 ^ 8) (firsts .at 3 (omega arith) (omega arith)))
+      (joined (ap fourIn (there 0 (omega arith)) ∙ ha) (ap fourIn (there 1 (omega arith)) ∙ hb) (ap fourIn (there 2 (omega arith)) ∙ hc) (ap fourIn (there 3 (omega arith)) ∙ hd)
+      ∙ rows-list 16 (λ j. getD ps j none) ps none sixteen (λ j l. refl))
+    where
+      firsts : Agree 0 4 s listed
+      firsts = outside 0 4 (inl (omega arith))
 
-  pub lists-ends : length ps ≡ 16 → 16 ≤ i → unitIn t ≡ withConfig (unitIn s) (withProcessors (configIn s) ps)
-  lists-ends n h =
-      unit-is (listed n h) (registers-same (part 20 32 (omega arith) (omega arith))) (devices-same (part 32 64 (omega arith) (omega arith)))
-      (collections-same (part 64 96 (omega arith) (omega arith))) (translations-same (part 96 608 (omega arith) (omega arith)))
+  pub processors-put : unitIn listed ≡ withConfig (unitIn s) (withProcessors (configIn s) ps)
+  processors-put =
+      unit-is configured (registers-same (outside 20 32 (inr (omega arith)))) (devices-same (outside 32 64 (inr (omega arith))))
+      (collections-same (outside 64 96 (inr (omega arith)))) (translations-same (outside 96 608 (inr (omega arith))))
 
 -- The whole configuration: four numbers, and then the processors.
 module _ (k : ItsConfig) (s : List ℕ) (long : length s ≡ 608) (a : k .«lpi_limit» < 2 ^ 32) (b : k .«command_budget» < 2 ^ 32) (c : k .«frame_size» < 2 ^ 32) (d : k .«processor_count» < 2 ^ 8) where

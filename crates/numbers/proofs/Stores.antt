@@ -14,7 +14,7 @@ use Rattle.model.specs.declared.ItsConfig.{ItsConfig}
 use Rattle.model.specs.declared.ItsRegisters.{ItsRegisters}
 use Rattle.model.specs.declared.ItsState.{ItsState}
 use Rattle.model.specs.Step.{withDevices, withCollections, withTranslations}
-use Rattle.numbers.specs.Unit.{processorIn, deviceIn, collectionIn, translationIn, word, rows, configIn, registersIn, devicesIn, collectionsIn, translationsIn, unitIn}
+use Rattle.numbers.specs.Unit.{deviceIn, collectionIn, translationIn, word, configIn, registersIn, devicesIn, collectionsIn, translationsIn, unitIn}
 use Rattle.numbers.proofs.Rows.{rows-length, rows-at, rows-same, rows-set}
 
 -- the same numbers stand from one place up to another
@@ -38,7 +38,10 @@ module _ {s t : List ℕ} where
         h .at 1 (omega arith) (omega arith),
         h .at 2 (omega arith) (omega arith),
         h .at 3 (omega arith) (omega arith),
-        rows-same 16 (λ i. processorIn (word t (4 + i))) (λ i. processorIn (word s (4 + i))) (λ i l. ap processorIn (h .at (4 + i) (omega arith) (omega arith))),
+        h .at 4 (omega arith) (omega arith),
+        h .at 5 (omega arith) (omega arith),
+        h .at 6 (omega arith) (omega arith),
+        h .at 7 (omega arith) (omega arith),
       )
 
   pub registers-same : Agree 20 32 s t → registersIn t ≡ registersIn s

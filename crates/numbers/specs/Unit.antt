@@ -4,8 +4,10 @@
 --   1        the command budget                   32 .. 63    the devices: number, 2^32 times the event bits, 2^63 if used
 --   2        the size of the frame                64 .. 95    the collections: number, 2^16 times the processor, 2^63 if used
 --   3        the count of processors              96 .. 351   the pairs: event, 2^32 times the device
---   4 .. 19  the processors                       352 .. 607  where the pair of the same number goes: LPI, 2^32 times the collection,
---   20       1 if enabled                                     2^63 if used
+--   4 .. 7   the processors, four to a number,    352 .. 607  where the pair of the same number goes: LPI, 2^32 times the collection,
+--            the first lowest                                 2^63 if used
+--   8 .. 19  nothing
+--   20       1 if enabled
 --   21       GITS_CBASER
 --   22       GITS_CREADR
 --   23       GITS_CWRITER
@@ -35,6 +37,10 @@ isUsed w = leb (2 ^ 63) w
 
 abbrev pub processorIn : ℕ → GicVcpuId
 processorIn w = record { 0 = w % 2 ^ 16 }
+
+-- a processor of the four in a word, the first lowest
+abbrev pub processorAt : ℕ → ℕ → GicVcpuId
+processorAt w i = processorIn (w / 2 ^ (16 * i))
 
 unfoldable pub deviceIn : ℕ → ItsDevice
 deviceIn w = record { device = record { 0 = w % 2 ^ 32 }; «event_bits» = w / 2 ^ 32 % 2 ^ 8; used = isUsed w }
@@ -71,7 +77,7 @@ configIn s =
       «command_budget» = word s 1 % 2 ^ 32;
       «frame_size» = word s 2 % 2 ^ 32;
       «processor_count» = word s 3 % 2 ^ 8;
-      processors = rows 16 (λ i. processorIn (word s (4 + i)));
+      processors = rows 16 (λ i. processorAt (word s (4 + i / 4)) (i % 4));
     }
 
 unfoldable pub registersIn : List ℕ → ItsRegisters

@@ -13,12 +13,13 @@ use model::ItsRegisters;
 use model::LpiId;
 use model::Translation;
 ghost use mathlib.Core.Path.{_≡_};
+ghost use mathlib.Core.List.{[], _∷_};
 ghost use Prim.Native.Nat.{_*_, _+_, _%_, _^_, _<_};
 ghost use lib.ListN.{length, set};
 ghost use Rattle.model.specs.Choose.{if_then_else_};
 ghost use Rattle.model.specs.Step.{withDevices, withCollections, withTranslations};
 ghost use Rattle.model.specs.Queue.{withRegisters, pastCommand};
-ghost use Rattle.numbers.specs.Unit.{isUsed, processorIn, deviceIn, collectionIn, translationIn, word, configIn, registersIn, devicesIn, collectionsIn, translationsIn, unitIn, withConfig, withProcessors};
+ghost use Rattle.numbers.specs.Unit.{isUsed, processorIn, processorAt, deviceIn, collectionIn, translationIn, word, rows, configIn, registersIn, devicesIn, collectionsIn, translationsIn, unitIn, withConfig, withProcessors};
 
 fn low32(w: u64) -> u32
     ensures { λ r. ⌜ r ≡ w % 2 ^ 32 ⌝ }
@@ -92,6 +93,16 @@ fn used_word(used: bool) -> u64
     if used { 0x8000_0000_0000_0000 } else { 0 }
 }
 
+// Four processors in a word, the first lowest.
+fn packed(a: GicVcpuId, b: GicVcpuId, c: GicVcpuId, d: GicVcpuId) -> u64
+    ensures { λ w. ⌜ rows 4 (processorAt w) ≡ (a ∷ b ∷ c ∷ d ∷ []) ⌝ }
+{
+    (d.0 as u64) * 0x1_0000_0000_0000
+        + (c.0 as u64) * 0x1_0000_0000
+        + (b.0 as u64) * 0x1_0000
+        + a.0 as u64
+}
+
 fn device_word(r: ItsDevice) -> u64
     ensures { λ w. ⌜ deviceIn w ≡ r ⌝ }
 {
@@ -128,23 +139,27 @@ pub fn whole(state: &[u64; 608]) -> usize
 pub fn config_in(state: &[u64; 608]) -> ItsConfig
     ensures { λ r. ⌜ r ≡ configIn (now (state .entry)) ⌝ }
 {
+    let w4 = state[4];
+    let w5 = state[5];
+    let w6 = state[6];
+    let w7 = state[7];
     let processors = [
-        processor_in(state[4]),
-        processor_in(state[5]),
-        processor_in(state[6]),
-        processor_in(state[7]),
-        processor_in(state[8]),
-        processor_in(state[9]),
-        processor_in(state[10]),
-        processor_in(state[11]),
-        processor_in(state[12]),
-        processor_in(state[13]),
-        processor_in(state[14]),
-        processor_in(state[15]),
-        processor_in(state[16]),
-        processor_in(state[17]),
-        processor_in(state[18]),
-        processor_in(state[19]),
+        processor_in(w4),
+        processor_in(w4 / 0x1_0000),
+        processor_in(w4 / 0x1_0000_0000),
+        processor_in(w4 / 0x1_0000_0000_0000),
+        processor_in(w5),
+        processor_in(w5 / 0x1_0000),
+        processor_in(w5 / 0x1_0000_0000),
+        processor_in(w5 / 0x1_0000_0000_0000),
+        processor_in(w6),
+        processor_in(w6 / 0x1_0000),
+        processor_in(w6 / 0x1_0000_0000),
+        processor_in(w6 / 0x1_0000_0000_0000),
+        processor_in(w7),
+        processor_in(w7 / 0x1_0000),
+        processor_in(w7 / 0x1_0000_0000),
+        processor_in(w7 / 0x1_0000_0000_0000),
     ];
     let count = (state[3] % 0x100) as u8;
     ItsConfig {
@@ -183,12 +198,19 @@ fn put_processors(state: &mut [u64; 608], processors: [GicVcpuId; 16])
     ensures { λ _. ⌜ unitIn (now (state .exit)) ≡ withConfig (unitIn (now (state .entry))) (withProcessors (configIn (now (state .entry))) processors) ⌝ }
 {
     let _all = whole(state);
-    let mut i: usize = 0;
-    while i < 16 {
-        let p = processors[i];
-        state[4 + i] = p.0 as u64;
-        i += 1;
-    }
+    let w4 = packed(processors[0], processors[1], processors[2], processors[3]);
+    let w5 = packed(processors[4], processors[5], processors[6], processors[7]);
+    let w6 = packed(processors[8], processors[9], processors[10], processors[11]);
+    let w7 = packed(
+        processors[12],
+        processors[13],
+        processors[14],
+        processors[15],
+    );
+    state[4] = w4;
+    state[5] = w5;
+    state[6] = w6;
+    state[7] = w7;
 }
 
 pub fn put_config(state: &mut [u64; 608], config: ItsConfig)
