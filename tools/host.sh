@@ -65,7 +65,7 @@ done
 "$tools/ld.lld" -static --gc-sections -e _start -Ttext=0x40080000 "$made"/*.o "$bare" -o "$made/visit.elf"
 emulator=qemu-system-aarch64
 if ! command -v "$emulator" >/dev/null; then
-    { apt-get update && apt-get install -y --no-install-recommends qemu-system-arm; } >"$made/log" 2>&1 || true
+    timeout 300 sh -c 'apt-get update && apt-get install -y --no-install-recommends qemu-system-arm' >"$made/log" 2>&1 || true
 fi
 if command -v "$emulator" >/dev/null; then
     timeout 60 "$emulator" -M virt -cpu cortex-a72 -m 64 -nographic -nic none -monitor none -serial none \
