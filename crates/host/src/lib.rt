@@ -1,7 +1,7 @@
 // The unit for a host: C calls over a unit that the host owns as numbers (specs/Unit.antt of crate `numbers`), with the window and the row as
 // pointer and length. Each call puts the numbers of its answer, those of the line that `itstrace` would write, into `told`, and returns the
 // first of them, the refusal. What each promises is said in specs/Calls.antt.
-pub mod run;
+mod run;
 
 use model::EventId;
 use model::GicVcpuId;
