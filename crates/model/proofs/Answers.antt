@@ -43,13 +43,13 @@ taken-of q (some s) done actions h = never true refl (cc)
 -- What becomes of the queue: it runs whole, or nothing runs.
 
 module _ {A : Type 0} (a b : Bool) (x y z : A) where
-  both-hold : a ≡ true → b ≡ true → (if a then (b or x then y) else z) ≡ y
+  pub both-hold : a ≡ true → b ≡ true → (if a then (b or x then y) else z) ≡ y
   both-hold h k = rw (h, k)
 
-  second-fails : a ≡ true → b ≡ false → (if a then (b or x then y) else z) ≡ x
+  pub second-fails : a ≡ true → b ≡ false → (if a then (b or x then y) else z) ≡ x
   second-fails h k = rw (h, k)
 
-  first-fails : a ≡ false → (if a then (b or x then y) else z) ≡ z
+  pub first-fails : a ≡ false → (if a then (b or x then y) else z) ≡ z
   first-fails h = rw h
 
 module _ (w : Window) (v : ItsState) where

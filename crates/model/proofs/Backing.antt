@@ -21,21 +21,21 @@ use Rattle.model.specs.Choose.{if_then_else_, isFound}
 use Rattle.model.specs.Keys.{sameDevice, sameCollection, samePair, eventAsLpi}
 use Rattle.model.specs.Config.{listed}
 use Rattle.model.specs.Step.{deviceOf, collectionOf, lpiInRange, deviceMapped, collectionMapped, checkMapping, isAccepted, accepts}
-use Rattle.model.specs.History.{ofDeviceSays, deviceNow, ofCollectionSays, collectionNow, Part, maps, moves, ends, endsIn, leaves, partIn, Entry, anEntry, pairAfter, pairNow}
+use Rattle.model.specs.History.{ofDeviceSays, deviceNow, ofCollectionSays, collectionNow, Part, maps, moves, ends, endsIn, leaves, partIn, PairEntry, anEntry, pairAfter, pairNow}
 use Rattle.model.proofs.Cases.{cases, never, found-when}
 use Rattle.model.proofs.KeyLaws.{eqb-sym, pair-device}
 use Rattle.model.proofs.Effects.{allowed, passed}
 use Rattle.model.proofs.Agreement.{Agrees}
 
 -- Where a pair that is there after a command comes from.
-abbrev pub Came : Part → Option Entry → Entry → Type 0
+abbrev pub Came : Part → Option PairEntry → PairEntry → Type 0
 Came (maps l c) o x = x ≡ anEntry l c
-Came (moves c) o x = (y : Entry) × (o ≡ some y) × (x ≡ anEntry (y .lpi) c)
+Came (moves c) o x = (y : PairEntry) × (o ≡ some y) × (x ≡ anEntry (y .lpi) c)
 Came ends o x = ⊥
 Came (endsIn c) o x = (o ≡ some x) × (sameCollection (x .collection) c ≡ false)
 Came leaves o x = o ≡ some x
 
-pub came : (p : Part) (o : Option Entry) (x : Entry) → pairAfter p o ≡ some x → Came p o x
+pub came : (p : Part) (o : Option PairEntry) (x : PairEntry) → pairAfter p o ≡ some x → Came p o x
 came (maps l c) o x h = cc
 came (moves c) none x h = never true refl (cc)
 came (moves c) (some y) x h = (y, refl, (cc))
@@ -43,20 +43,20 @@ came ends o x h = never true refl (cc)
 came (endsIn c) none x h = never true refl (cc)
 came (endsIn c) (some y) x h =
     cases (sameCollection (y .collection) c)
-    (λ s. let n : _≡_ {A = Option Entry} none (some x) = rw s at h in never true refl (cc))
-    (λ s. let n : _≡_ {A = Option Entry} (some y) (some x) = rw s at h in
+    (λ s. let n : _≡_ {A = Option PairEntry} none (some x) = rw s at h in never true refl (cc))
+    (λ s. let n : _≡_ {A = Option PairEntry} (some y) (some x) = rw s at h in
     let yx : y ≡ x = cc in
     (n, rw yx at s))
 came leaves o x h = h
 
 -- A pair in force with the entry x, whose device has these event bits and whose collection this processor, by the history.
-pub record Behind (k : ItsConfig) (bits : Option ℕ) (p : Option GicVcpuId) (x : Entry) : Type 0 where
+pub record Behind (k : ItsConfig) (bits : Option ℕ) (p : Option GicVcpuId) (x : PairEntry) : Type 0 where
   pub range : lpiInRange k (x .lpi) ≡ true
   pub device : isFound bits ≡ true
   pub collection : isFound p ≡ true
 
 pub record Sound (k : ItsConfig) (h : List Command) : Type 0 where
-  pub behind : (d : ItsDeviceId) (e : EventId) (x : Entry) → pairNow d e h ≡ some x → Behind k (deviceNow d h) (collectionNow (x .collection) h) x
+  pub behind : (d : ItsDeviceId) (e : EventId) (x : PairEntry) → pairNow d e h ≡ some x → Behind k (deviceNow d h) (collectionNow (x .collection) h) x
   pub processors : (c : CollectionId) (p : GicVcpuId) → collectionNow c h ≡ some p → listed k p ≡ true
 
 pub sound-fresh : (k : ItsConfig) → Sound k []
@@ -72,7 +72,7 @@ module _ (u : ItsState) (h : List Command) (agrees : Agrees h u) (sound : Sound 
 
   -- after a MAPTI or MAPI
   mapped : (d′ : ItsDeviceId) (e′ : EventId) (l : LpiId) (c : CollectionId) → isAccepted (checkMapping u d′ e′ l c) ≡ true →
-      (d : ItsDeviceId) (e : EventId) (y : Entry) → pairAfter (if samePair d′ e′ d e then maps l c else leaves) (pairNow d e h) ≡ some y →
+      (d : ItsDeviceId) (e : EventId) (y : PairEntry) → pairAfter (if samePair d′ e′ d e then maps l c else leaves) (pairNow d e h) ≡ some y →
       Behind (u .config) (deviceNow d h) (collectionNow (y .collection) h) y
   mapped d′ e′ l c ok d e y q =
       cases (samePair d′ e′ d e)
@@ -85,7 +85,7 @@ module _ (u : ItsState) (h : List Command) (agrees : Agrees h u) (sound : Sound 
       })
       (λ s. sound .behind d e y (rw s at q))
 
-  pub behind-step : (x : Command) → accepts u x ≡ true → (d : ItsDeviceId) (e : EventId) (y : Entry) → pairNow d e (x ∷ h) ≡ some y →
+  pub behind-step : (x : Command) → accepts u x ≡ true → (d : ItsDeviceId) (e : EventId) (y : PairEntry) → pairNow d e (x ∷ h) ≡ some y →
       Behind (u .config) (deviceNow d (x ∷ h)) (collectionNow (y .collection) (x ∷ h)) y
   unfolding ofDeviceSays ofCollectionSays partIn
   behind-step (Mapd d′ bits true) ok d e y q =

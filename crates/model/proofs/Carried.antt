@@ -5,9 +5,11 @@ use mathlib.Core.Path.{_≡_, refl, _∙_}
 use mathlib.Core.List.{List, _++_}
 use Rattle.model.specs.declared.ItsRegisters.{ItsRegisters}
 use Rattle.model.specs.declared.ItsState.{ItsState}
+use Rattle.model.specs.declared.ItsAction.{ItsAction}
 use Rattle.model.specs.declared.Command.{Command}
-use Rattle.model.specs.Queue.{withRegisters, carryOut}
-use Rattle.model.specs.Steps.{CarriedOut, nothing, one-more}
+use Rattle.model.specs.With.{withRegisters}
+use Rattle.model.specs.Queue.{carryOut}
+use Rattle.model.specs.Passed.{CarriedOut, nothing, one-more}
 use Rattle.model.proofs.Agreement.{Agrees, agrees-step}
 use Rattle.model.proofs.Backing.{Sound, sound-step}
 use Rattle.model.proofs.Turns.{carried-config}
@@ -21,7 +23,7 @@ pub record Lengthened (u v : ItsState) (h : List Command) : Type 0 where
   pub agrees : Agrees h v
   pub sound : Sound (u .config) h
 
-pub lengthened : {u v : ItsState} {g : List Command} (h : List Command) → CarriedOut u g v → Agrees h u → Sound (u .config) h → Lengthened u v (g ++ h)
+pub lengthened : {u v : ItsState} {g : List Command} {handed : List ItsAction} (h : List Command) → CarriedOut u g handed v → Agrees h u → Sound (u .config) h → Lengthened u v (g ++ h)
 unfolding carryOut
 lengthened h nothing a s = record { config = refl; agrees = a; sound = s }
 lengthened h (one-more {v = v} {h = g} c x ok) a s =

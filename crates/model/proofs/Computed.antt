@@ -1,6 +1,5 @@
 -- What the definitions compute to: to open `shown` is to open every definition that a trace runs through.
 -- Assumes nothing.
-use mathlib.Core.Bool.{Bool}
 use mathlib.Core.List.{List}
 use Prim.Native.Nat.{ℕ}
 use Rattle.model.specs.Table.{place, room, store}
@@ -8,10 +7,15 @@ use Rattle.model.specs.Config.{listed, soundConfig, soundRing}
 use Rattle.model.specs.Decode.{decode}
 use Rattle.model.specs.Step.{deliveryIn, lpiInRange, eventBelow, checkMapping, storeDevice, storeCollection, storeTranslation, dropDevice, dropCollection, dropPair, movePair, actionsOn, stepped}
 use Rattle.model.specs.Queue.{commandAt, distance, waiting, turn, carryOut, runQueue}
-use Rattle.model.specs.Register.{registerAt, typerValue, readPart, merged, baserAfter, writerAccepted}
-use Rattle.model.specs.Entry.{configure, checkAccess, read, translate, running, write}
+use Rattle.model.specs.Register.{registerAt, typerValue, readPart, merged}
+use Rattle.model.specs.Access.{checkAccess, checkRead, checkWrite}
+use Rattle.model.specs.Writing.{toCtlr, toCbaser, toCwriter, toBaser, baserAfter, writerAccepted, registerWrite}
+use Rattle.model.specs.Entry.{configure, readFrom, translate, running, write}
 use Rattle.model.specs.Trace.{parse, decimal, line, writeOf, traceLines, printed}
 
 unfoldable pub shown : List ℕ → List ℕ
-unfolding place room store listed soundConfig soundRing decode deliveryIn lpiInRange eventBelow checkMapping storeDevice storeCollection storeTranslation dropDevice dropCollection dropPair movePair actionsOn stepped commandAt distance waiting turn carryOut runQueue registerAt typerValue readPart merged baserAfter writerAccepted configure checkAccess read translate running write parse decimal line writeOf traceLines printed
+unfolding place room store listed soundConfig soundRing decode deliveryIn lpiInRange eventBelow checkMapping storeDevice storeCollection
+    storeTranslation dropDevice dropCollection dropPair movePair actionsOn stepped commandAt distance waiting turn carryOut runQueue registerAt
+    typerValue readPart merged baserAfter writerAccepted configure checkAccess checkRead checkWrite toCtlr toCbaser toCwriter toBaser registerWrite
+    readFrom translate running write parse decimal line writeOf traceLines printed
 shown trace = printed trace

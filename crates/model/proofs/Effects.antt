@@ -18,14 +18,54 @@ use Rattle.model.specs.declared.Command.the-variants.{Mapd, Mapc, Mapti,
 use Rattle.model.specs.declared.Refusal.the-variants.{LpiOutOfRange, DeviceUnmapped, EventBeyondBits, CollectionUnmapped, PairUnmapped, ProcessorUnlisted, TableFull}
 use Rattle.model.specs.declared.Verdict.{Verdict}
 use Rattle.model.specs.declared.Verdict.the-variants.{Accepted, Refused}
-use Rattle.model.specs.Choose.{if_then_else_, _or_then_, whenFound, ifFound, isFound}
+use Rattle.model.specs.Choose.{if_then_else_, _or_then_, whenFound, ifFound}
 use Rattle.model.specs.Keys.{sameDevice, sameCollection, samePair, isDevice, isCollection, isPair, ofDevice, aDevice, aCollection, aTranslation, noDevice, noCollection, noTranslation, eventAsLpi}
 use Rattle.model.specs.Config.{listed}
-use Rattle.model.specs.Step.{deviceOf, collectionOf, translationOf, lpiInRange, deviceMapped, eventFits, collectionMapped, pairMapped, roomForDevice, roomForCollection, roomForPair, checkMapping, storeDevice, storeCollection, storeTranslation, pairIn, dropDevice, dropCollection, dropPair, movePair, effect, isAccepted, accepts}
-use Rattle.model.specs.History.{after, ofDeviceSays, ofCollectionSays, maps, leaves, partIn, Entry, anEntry, pairAfter}
+use Rattle.model.specs.Step.{
+  deviceOf,
+  collectionOf,
+  translationOf,
+  lpiInRange,
+  deviceMapped,
+  eventFits,
+  collectionMapped,
+  pairMapped,
+  roomForDevice,
+  roomForCollection,
+  roomForPair,
+  checkMapping,
+  storeDevice,
+  storeCollection,
+  storeTranslation,
+  pairIn,
+  dropDevice,
+  dropCollection,
+  dropPair,
+  movePair,
+  effect,
+  isAccepted,
+  accepts,
+}
+use Rattle.model.specs.History.{after, ofDeviceSays, ofCollectionSays, maps, leaves, partIn, PairEntry, anEntry, pairAfter}
 use Rattle.model.proofs.Cases.{cases, never, found}
 use Rattle.model.proofs.TableLaws.{look-found, room-same, look-store, look-drop}
-use Rattle.model.proofs.KeyLaws.{device-keys, collection-keys, pair-keys, device-used, collection-used, pair-used, pair-has-device, pair-has-event, device-drops, collection-drops, device-drops-pair, pair-drops, pair-refl, pair-device, pair-event}
+use Rattle.model.proofs.KeyLaws.{
+  device-keys,
+  collection-keys,
+  pair-keys,
+  device-used,
+  collection-used,
+  pair-used,
+  pair-has-device,
+  pair-has-event,
+  device-drops,
+  collection-drops,
+  device-drops-pair,
+  pair-drops,
+  pair-refl,
+  pair-device,
+  pair-event,
+}
 
 -- What the unit says.
 
@@ -35,10 +75,10 @@ bitsIn u d = whenFound (deviceOf u d) (λ r. some (r .«event_bits»))
 abbrev pub targetIn : ItsState → CollectionId → Option GicVcpuId
 targetIn u c = whenFound (collectionOf u c) (λ r. some (r .target))
 
-abbrev pub entryOf : Translation → Entry
+abbrev pub entryOf : Translation → PairEntry
 entryOf r = anEntry (r .lpi) (r .collection)
 
-abbrev pub entryIn : ItsState → ItsDeviceId → EventId → Option Entry
+abbrev pub entryIn : ItsState → ItsDeviceId → EventId → Option PairEntry
 entryIn u d e = whenFound (translationOf u d e) (λ r. some (entryOf r))
 
 -- a check that was passed held, and so did those after it

@@ -1,11 +1,10 @@
 -- The last command that says something of a thing decides whether it is mapped: `now` of History.antt and `Last` of Paragraph.antt say the same.
 -- Proved once, for whatever is said and whatever commands say it.
 -- Assumes nothing.
-use Prim.Native.Nat.{ℕ}
-use mathlib.Core.Path.{_≡_, refl, sym, ap, _∙_}
+use mathlib.Core.Path.{_≡_, refl, ap, _∙_}
 use mathlib.Core.Bool.{true}
 use mathlib.Core.List.{List, [], _∷_, _++_}
-use mathlib.Core.Option.{Option, none, some}
+use mathlib.Core.Option.{none, some}
 use mathlib.Core.Logic.{_⊎_, inl, inr, ⊎-elim, _↔_}
 use Rattle.model.specs.declared.Command.{Command}
 use Rattle.model.specs.History.{Says, maps-it, unmaps-it, silent, after, now}

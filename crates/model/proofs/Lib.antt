@@ -5,7 +5,7 @@ pub mod Cases
 pub mod TableLaws
 pub mod TableLoops
 pub mod Places
-pub mod Plans
+pub mod CommandLaws
 pub mod KeyLaws
 pub mod Effects
 pub mod Agreement
@@ -21,10 +21,9 @@ pub mod Waiting
 pub mod Turns
 pub mod Stays
 pub mod Runs
+pub mod RunLaws
+pub mod RowLaws
 pub mod Carried
-pub mod AsRuns
 pub mod Answers
-pub mod Outcomes
-pub mod Accesses
-pub mod Demand3
-pub mod ReachedExample
+pub mod Ways
+pub mod Held

@@ -4,8 +4,8 @@
 use Prim.Native.Nat.{ℕ}
 use mathlib.Core.Path.{_≡_, refl, ap}
 use mathlib.Core.Bool.{Bool, true, false}
-use mathlib.Core.List.{List, _∷_, _++_}
-use mathlib.Core.Option.{Option, some}
+use mathlib.Core.List.{List}
+use mathlib.Core.Option.{some}
 use mathlib.Core.Logic.{_↔_}
 use borrow.Author.Tests.{eq-eqb}
 use Rattle.model.specs.declared.ItsDeviceId.{ItsDeviceId}
@@ -13,10 +13,9 @@ use Rattle.model.specs.declared.CollectionId.{CollectionId}
 use Rattle.model.specs.declared.GicVcpuId.{GicVcpuId}
 use Rattle.model.specs.declared.Command.{Command}
 use Rattle.model.specs.declared.Command.the-variants.{Mapd, Mapc, Mapti, Mapi, Movi, Int, Clear, Discard, Inv, Invall, Sync}
-use Rattle.model.specs.Choose.{if_then_else_}
 use Rattle.model.specs.Keys.{sameDevice, sameCollection}
-use Rattle.model.specs.History.{Says, maps-it, unmaps-it, silent, now, ofDeviceSays, deviceNow, ofCollectionSays, collectionNow, onlyMaps, processorNow}
-use Rattle.model.specs.Paragraph.{_∈_, Last, MapdOf, DeviceMapped, MapcOf, CollectionMapped, ValidMapcOf, ProcessorOf}
+use Rattle.model.specs.History.{Says, maps-it, unmaps-it, silent, ofDeviceSays, deviceNow, ofCollectionSays, collectionNow, onlyMaps, processorNow}
+use Rattle.model.specs.Paragraph.{MapdOf, DeviceMapped, MapcOf, CollectionMapped, ValidMapcOf, ProcessorOf}
 use Rattle.model.proofs.Cases.{cases, never}
 use Rattle.model.proofs.KeyLaws.{device-eq, collection-eq}
 use Rattle.model.proofs.LastLaws.{Speak, last-iff}

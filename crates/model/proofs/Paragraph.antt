@@ -2,7 +2,7 @@
 -- Assumes nothing.
 use Prim.Native.Nat.{ℕ}
 use mathlib.Core.Path.{_≡_, refl, sym, ap, ap₂, _∙_}
-use mathlib.Core.Bool.{Bool, true, false}
+use mathlib.Core.Bool.{true, false}
 use mathlib.Core.List.{List, [], _∷_, _++_}
 use mathlib.Core.Option.{Option, none, some}
 use mathlib.Core.Logic.{_⊎_, inl, inr, ⊎-elim, _↔_}
@@ -14,10 +14,10 @@ use Rattle.model.specs.declared.LpiId.{LpiId}
 use Rattle.model.specs.declared.GicVcpuId.{GicVcpuId}
 use Rattle.model.specs.declared.Command.{Command}
 use Rattle.model.specs.declared.Command.the-variants.{Mapd, Mapc, Mapti, Mapi, Movi, Int, Clear, Discard, Inv, Invall, Sync}
-use Rattle.model.specs.Choose.{if_then_else_, ifFound}
+use Rattle.model.specs.Choose.{ifFound}
 use Rattle.model.specs.Keys.{sameDevice, sameCollection, samePair, eventAsLpi}
-use Rattle.model.specs.History.{Says, maps-it, unmaps-it, silent, now, Part, maps, moves, ends, endsIn, leaves, partIn, Entry, anEntry, pairAfter, pairNow}
-use Rattle.model.specs.Paragraph.{_∈_, Last, Maps, MappingOf, MoviOf, Names, InForce}
+use Rattle.model.specs.History.{Says, maps-it, unmaps-it, silent, now, Part, maps, moves, ends, endsIn, leaves, partIn, PairEntry, anEntry, pairAfter, pairNow}
+use Rattle.model.specs.Paragraph.{_∈_, Maps, MappingOf, MoviOf, Names, InForce}
 use Rattle.model.proofs.Cases.{cases, never}
 use Rattle.model.proofs.KeyLaws.{device-eq, collection-eq, pair-refl, pair-device, pair-event}
 use Rattle.model.proofs.LastLaws.{Speak, last-iff, none-now, now-none}
@@ -206,7 +206,7 @@ module _ (d : ItsDeviceId) (e : EventId) where
       }
 
   -- From the entry back to the commands that made it.
-  record Made (h : List Command) (y : Entry) : Type 0 where
+  record Made (h : List Command) (y : PairEntry) : Type 0 where
     mapping : Command
     first : CollectionId
     later : List Command
@@ -217,7 +217,7 @@ module _ (d : ItsDeviceId) (e : EventId) where
     lies : y .collection ≡ collectionAfter first later
 
   -- one more command that spares it
-  more : (x : Command) (h : List Command) (p : Part) → partIn d e x ≡ p → (y z : Entry) → Made h z → Spares p (z .collection) → pairAfter p (some z) ≡ some y → Made (x ∷ h) y
+  more : (x : Command) (h : List Command) (p : Part) → partIn d e x ≡ p → (y z : PairEntry) → Made h z → Spares p (z .collection) → pairAfter p (some z) ≡ some y → Made (x ∷ h) y
   more x h p q y z f s a =
       let t : Spares p (collectionAfter (f .first) (f .later)) = rw (f .lies) at s in
       let g : some (anEntry (z .lpi) (collectionAfter (f .first) (x ∷ f .later))) ≡ some y =
@@ -234,11 +234,11 @@ module _ (d : ItsDeviceId) (e : EventId) where
         lies = rw (← w);
       }
 
-  make : (h : List Command) (y : Entry) → pairNow d e h ≡ some y → Made h y
+  make : (h : List Command) (y : PairEntry) → pairNow d e h ≡ some y → Made h y
   make [] y q = never true refl (cc)
   make (x ∷ h) y q = go (partIn d e x) refl (which x) (came (partIn d e x) (pairNow d e h) y q) (make h)
     where
-      go : (p : Part) → partIn d e x ≡ p → Is p x → Came p (pairNow d e h) y → ((z : Entry) → pairNow d e h ≡ some z → Made h z) → Made (x ∷ h) y
+      go : (p : Part) → partIn d e x ≡ p → Is p x → Came p (pairNow d e h) y → ((z : PairEntry) → pairNow d e h ≡ some z → Made h z) → Made (x ∷ h) y
       go (maps l c) e i k ih = record { mapping = x; first = c; later = []; before = h; there = refl; made = rw k i; spare = tt; lies = rw k }
       go (moves c) e i k ih = more x h (moves c) e y (k .0) (ih (k .0) (k .1)) tt (ap some (sym (k .2)))
       go ends e i k ih = absurd k

@@ -1,12 +1,9 @@
--- DEMAND 3 FOR COMMANDS ALONE: from a fresh unit, whatever commands it meets, what specs/Promise.antt says holds of it and of the history of the
--- commands that it carried out. First for any unit that agrees with a history; then for a unit that met commands.
+-- What specs/Promise.antt says holds of any unit that agrees with a history, and of that history.
 -- Assumes nothing.
-use Prim.Native.Nat.{ℕ}
 use mathlib.Core.Path.{_≡_, refl, sym, ap, _∙_}
 use mathlib.Core.Bool.{true}
-use mathlib.Core.List.{List, [], _∷_}
+use mathlib.Core.List.{List}
 use mathlib.Core.Option.{Option, none, some}
-use mathlib.Core.Logic.{_↔_}
 use lib.Dec.{leb}
 use borrow.Author.Tests.{leb-true}
 use Rattle.model.specs.declared.ItsDeviceId.{ItsDeviceId}
@@ -16,23 +13,20 @@ use Rattle.model.specs.declared.LpiId.{LpiId}
 use Rattle.model.specs.declared.GicVcpuId.{GicVcpuId}
 use Rattle.model.specs.declared.ItsCollection.{ItsCollection}
 use Rattle.model.specs.declared.Translation.{Translation}
-use Rattle.model.specs.declared.ItsConfig.{ItsConfig}
 use Rattle.model.specs.declared.ItsState.{ItsState}
 use Rattle.model.specs.declared.Delivery.{Delivery}
 use Rattle.model.specs.declared.Command.{Command}
-use Rattle.model.specs.Choose.{if_then_else_, whenFound}
+use Rattle.model.specs.Choose.{whenFound}
 use Rattle.model.specs.Arm.{LPI-base}
 use Rattle.model.specs.Keys.{delivery}
-use Rattle.model.specs.Config.{listed}
-use Rattle.model.specs.Step.{collectionOf, translationOf, deliveryIn, lpiInRange, accepts, stepped}
-use Rattle.model.specs.History.{deviceNow, collectionNow, processorNow, Entry, anEntry, pairNow, deliveryOf}
+use Rattle.model.specs.Step.{collectionOf, translationOf, deliveryIn, lpiInRange}
+use Rattle.model.specs.History.{deviceNow, collectionNow, processorNow, PairEntry, anEntry, pairNow, deliveryOf}
 use Rattle.model.specs.Paragraph.{InForce}
-use Rattle.model.specs.Met.{unitAfter, carriedOut}
-use Rattle.model.specs.Promise.{SentTo, Backed, Promise}
-use Rattle.model.proofs.Cases.{cases, never, and-left, and-right, found}
-use Rattle.model.proofs.Effects.{targetIn, entryOf, entryIn, rest-effect}
-use Rattle.model.proofs.Agreement.{Agrees, agrees-fresh, agrees-step}
-use Rattle.model.proofs.Backing.{Sound, sound-fresh, sound-step}
+use Rattle.model.specs.Promise.{SentTo, Promise}
+use Rattle.model.proofs.Cases.{never, and-left, and-right, found}
+use Rattle.model.proofs.Effects.{targetIn, entryOf, entryIn}
+use Rattle.model.proofs.Agreement.{Agrees}
+use Rattle.model.proofs.Backing.{Sound}
 use Rattle.model.proofs.Mapped.{device-mapped, collection-mapped, processor-of, mapped-processor}
 use Rattle.model.proofs.Paragraph.{in-force}
 
@@ -56,7 +50,7 @@ module _ (u : ItsState) where
 
 module _ (u : ItsState) (h : List Command) (agrees : Agrees h u) (sound : Sound (u .config) h) where
   -- the collection of a pair in force is mapped; its processor is that of the last MAPC, which is the last valid one
-  backing : (d : ItsDeviceId) (e : EventId) (x : Entry) → pairNow d e h ≡ some x → (p : GicVcpuId) × (collectionNow (x .collection) h ≡ some p)
+  backing : (d : ItsDeviceId) (e : EventId) (x : PairEntry) → pairNow d e h ≡ some x → (p : GicVcpuId) × (collectionNow (x .collection) h ≡ some p)
   backing d e x q = found (collectionNow (x .collection) h) (sound .behind d e x q .collection)
 
   -- the unit sends a message of the pair where the history does
@@ -64,7 +58,7 @@ module _ (u : ItsState) (h : List Command) (agrees : Agrees h u) (sound : Sound 
   unfolding deliveryOf
   delivers d e = way u d e ∙ rw (agrees .pairs d e) (go (pairNow d e h) refl)
     where
-      go : (o : Option Entry) → pairNow d e h ≡ o →
+      go : (o : Option PairEntry) → pairNow d e h ≡ o →
           whenFound o (λ x. whenFound (targetIn u (x .collection)) (λ p. some (delivery (x .lpi) p)))
           ≡ whenFound o (λ x. whenFound (processorNow (x .collection) h) (λ p. some (delivery (x .lpi) p)))
       go none q = refl
@@ -82,7 +76,7 @@ module _ (u : ItsState) (h : List Command) (agrees : Agrees h u) (sound : Sound 
   unfolding deliveryOf
   given d e l p q = go (pairNow d e h) refl q
     where
-      at-processor : (x : Entry) → pairNow d e h ≡ some x → (o : Option GicVcpuId) → processorNow (x .collection) h ≡ o →
+      at-processor : (x : PairEntry) → pairNow d e h ≡ some x → (o : Option GicVcpuId) → processorNow (x .collection) h ≡ o →
           whenFound o (λ p. some (delivery (x .lpi) p)) ≡ some (delivery l p) → SentTo h d e l p
       at-processor x n none m r = never true refl (cc)
       at-processor x n (some p′) m r =
@@ -95,7 +89,7 @@ module _ (u : ItsState) (h : List Command) (agrees : Agrees h u) (sound : Sound 
             processor = processor-of (x .collection) h p .1 (m ∙ ap some sp);
           }
 
-      go : (o : Option Entry) → pairNow d e h ≡ o →
+      go : (o : Option PairEntry) → pairNow d e h ≡ o →
           whenFound o (λ x. whenFound (processorNow (x .collection) h) (λ p. some (delivery (x .lpi) p))) ≡ some (delivery l p) → SentTo h d e l p
       go none n r = never true refl (cc)
       go (some x) n r = at-processor x n (processorNow (x .collection) h) refl r
@@ -110,7 +104,7 @@ module _ (u : ItsState) (h : List Command) (agrees : Agrees h u) (sound : Sound 
   unfolding deliveryOf
   not-given d e n = go (pairNow d e h) refl
     where
-      go : (o : Option Entry) → pairNow d e h ≡ o → whenFound o (λ x. whenFound (processorNow (x .collection) h) (λ p. some (delivery (x .lpi) p))) ≡ none
+      go : (o : Option PairEntry) → pairNow d e h ≡ o → whenFound o (λ x. whenFound (processorNow (x .collection) h) (λ p. some (delivery (x .lpi) p))) ≡ none
       go none q = refl
       go (some x) q = absurd (n (x .lpi) (x .collection) (in-force d e h (x .lpi) (x .collection) .1 q))
 
@@ -145,31 +139,3 @@ module _ (u : ItsState) (h : List Command) (agrees : Agrees h u) (sound : Sound 
               processor-listed = sound .processors c p k;
             };
       }
-
--- A unit that met commands.
-module _ (k : ItsConfig) where
-  pub record Kept (xs : List Command) : Type 0 where
-    pub config : unitAfter k xs .config ≡ k
-    pub agrees : Agrees (carriedOut k xs) (unitAfter k xs)
-    pub sound : Sound k (carriedOut k xs)
-
-  pub met : (xs : List Command) → Kept xs
-  unfolding stepped
-  met [] = record { config = refl; agrees = agrees-fresh k; sound = sound-fresh k }
-  met (x ∷ xs) =
-      let u = unitAfter k xs in
-      let h = carriedOut k xs in
-      let m = met xs in
-      cases (accepts u x)
-      (λ ok.
-      record {
-        config = rw ok (rest-effect u x ok .0 ∙ m .config);
-        agrees = rw ok (agrees-step u h (m .agrees) x ok);
-        sound = rw ok (rw (m .config) at (sound-step u h (m .agrees) (rw (m .config) (m .sound)) x ok));
-      })
-      (λ no. record { config = rw no (m .config); agrees = rw no (m .agrees); sound = rw no (m .sound) })
-
-  pub demand-3-for-commands : (xs : List Command) → Promise k (unitAfter k xs) (carriedOut k xs)
-  demand-3-for-commands xs =
-      let m = met xs in
-      rw (m .config) at (promise (unitAfter k xs) (carriedOut k xs) (m .agrees) (rw (m .config) (m .sound)))

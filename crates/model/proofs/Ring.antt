@@ -11,8 +11,8 @@ use Rattle.model.specs.declared.ItsRegisters.{ItsRegisters}
 use Rattle.model.specs.Arm.{command-size}
 use Rattle.model.specs.Config.{queueBase, queueSize, isQueueOffset, soundRing}
 use Rattle.model.specs.Queue.{pastCommand}
-use Rattle.model.specs.Reached.{ringOffset}
-use Rattle.model.specs.Steps.{withReader}
+use Rattle.model.specs.With.{withReader}
+use Rattle.model.specs.Passed.{ringOffset}
 use Rattle.model.proofs.Cases.{cases, and-left, and-right, both}
 
 -- a queue has room for at least one command, and for a whole number of them

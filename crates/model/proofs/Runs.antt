@@ -6,28 +6,26 @@ use Prim.Native.Nat.{ℕ, zero, suc, _≤_, _<_}
 use native.Mathlib.Omega.{arith}
 use mathlib.Core.Path.{_≡_, refl, sym, ap, ap₂, _∙_}
 use mathlib.Core.Bool.{true}
-use mathlib.Core.List.{List, [], _∷_, _++_}
+use mathlib.Core.List.{List, [], _∷_, _++_, append-nil, append-assoc}
 use mathlib.Core.Option.{Option, none, some}
 use lib.ListN.{length, length-append}
 use Rattle.model.specs.declared.ItsState.{ItsState}
+use Rattle.model.specs.declared.ItsAction.{ItsAction}
 use Rattle.model.specs.declared.Command.{Command}
 use Rattle.model.specs.Choose.{listOf}
-use Rattle.model.specs.Config.{queueSize}
-use Rattle.model.specs.Queue.{Window, Turn, passes, stays, turn, carryOut, Stop, Ran, ended, goOn, run}
-use Rattle.model.specs.Reached.{ringOffset, commandsPassed}
-use Rattle.model.specs.Steps.{CarriedOut, nothing, one-more, withReader}
+use Rattle.model.specs.Queue.{Window, Stands, Turn, passes, stays, turn, carryOut, Stop, Ran, ended, goOn, run}
+use Rattle.model.specs.Step.{actionsOf}
+use Rattle.model.specs.With.{withReader}
+use Rattle.model.specs.Passed.{ringOffset, commandsPassed, CarriedOut, nothing, one-more}
 use Rattle.model.proofs.Cases.{never}
 use Rattle.model.proofs.Ring.{past-below, offset-here, offset-next}
 use Rattle.model.proofs.Turns.{passing, carried-registers, carried-config, passed-first}
 
 -- commands carried out, and then more
-pub chain : {u v t : ItsState} {g h : List Command} → CarriedOut u g v → CarriedOut v h t → CarriedOut u (h ++ g) t
-chain a nothing = a
-chain a (one-more b x ok) = one-more (chain a b) x ok
-
--- CREADR stands in the queue
-abbrev pub Stands : ItsState → Type 0
-Stands u = u .registers .creadr < queueSize (u .registers .cbaser)
+pub chain : {u v t : ItsState} {g h : List Command} {first later : List ItsAction} → CarriedOut u g first v → CarriedOut v h later t →
+    CarriedOut u (h ++ g) (first ++ later) t
+chain {first = first} a nothing = rw (append-nil first) a
+chain {first = first} a (one-more {v = v} {handed = handed} b x ok) = rw (← (append-assoc first handed (actionsOf v x))) (one-more (chain a b) x ok)
 
 module _ (w : Window) where
   pub record RunKeeps (n : ℕ) (u : ItsState) (r : Ran) : Type 0 where
@@ -36,13 +34,14 @@ module _ (w : Window) where
     pub at-most : r .done ≤ n
     pub all : r .stopped ≡ none → r .done ≡ n
     pub shown : length (commandsPassed w (u .registers) (r .done)) ≡ r .done
-    pub carried : CarriedOut u (commandsPassed w (u .registers) (r .done)) (r .unit)
+    pub carried : CarriedOut u (commandsPassed w (u .registers) (r .done)) (r .actions) (r .unit)
+    pub fewer : (s : Stop) → r .stopped ≡ some s → r .done < n
     pub refused : (s : Stop) → r .stopped ≡ some s → turn w (r .unit) ≡ stays (s .refusal) (s .opcode)
 
   -- the run ends here: all n commands are done, or the command at CREADR is refused
-  ended-keeps : (n : ℕ) (u : ItsState) (o : Option Stop) → Stands u → (o ≡ none → 0 ≡ n) →
+  ended-keeps : (n : ℕ) (u : ItsState) (o : Option Stop) → Stands u → (o ≡ none → 0 ≡ n) → ((s : Stop) → o ≡ some s → 0 < n) →
       ((s : Stop) → o ≡ some s → turn w u ≡ stays (s .refusal) (s .opcode)) → RunKeeps n u (ended u o)
-  ended-keeps n u o b all refused =
+  ended-keeps n u o b all fewer refused =
       record {
         config = refl;
         registers = ap (withReader (u .registers)) (sym (offset-here (u .registers) b));
@@ -50,6 +49,7 @@ module _ (w : Window) where
         all = all;
         shown = refl;
         carried = nothing;
+        fewer = fewer;
         refused = refused;
       }
 
@@ -71,12 +71,13 @@ module _ (w : Window) where
         all = λ s. ap suc (k .all s);
         shown = rw first (length-append (commandsPassed w (v .registers) d) (x ∷ []) ∙ omega (arith, k .shown));
         carried = rw first (chain (one-more nothing x (p .accepted)) (k .carried));
+        fewer = λ s h. omega (arith, k .fewer s h);
         refused = k .refused;
       }
   step n u (stays r opcode) t b rest =
-      ended-keeps (suc n) u (some (record { refusal = r; opcode = opcode })) b (λ s. never true refl (cc))
+      ended-keeps (suc n) u (some (record { refusal = r; opcode = opcode })) b (λ s. never true refl (cc)) (λ s h. omega arith)
       (λ s h. let same : record { refusal = r; opcode = opcode } ≡ s = cc in t ∙ ap (λ z. stays (z .refusal) (z .opcode)) same)
 
   pub run-keeps : (n : ℕ) (u : ItsState) → Stands u → RunKeeps n u (run w n u)
-  run-keeps zero u b = ended-keeps zero u none b (λ s. refl) (λ s h. never true refl (cc))
+  run-keeps zero u b = ended-keeps zero u none b (λ s. refl) (λ s h. never true refl (cc)) (λ s h. never true refl (cc))
   run-keeps (suc n) u b = step n u (turn w u) refl b (run-keeps n)

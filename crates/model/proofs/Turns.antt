@@ -20,7 +20,7 @@ use Rattle.model.specs.Config.{queueBase, queueSize}
 use Rattle.model.specs.Decode.{opcodeOf, decode}
 use Rattle.model.specs.Step.{check, isAccepted, accepts}
 use Rattle.model.specs.Queue.{Window, commandAt, commandAddress, passes, stays, judged, turnOn, turn, pastCommand, carryOut}
-use Rattle.model.specs.Reached.{ringOffset, ifKnown, commandOf, commandsPassed}
+use Rattle.model.specs.Passed.{ringOffset, ifKnown, commandOf, commandsPassed}
 use Rattle.model.proofs.Cases.{never}
 use Rattle.model.proofs.Effects.{rest-effect}
 use Rattle.model.proofs.Ring.{offset-here, offset-next}

@@ -12,9 +12,9 @@ use Rattle.model.specs.declared.ItsRegisters.{ItsRegisters}
 use Rattle.model.specs.Arm.{page, command-size}
 use Rattle.model.specs.Config.{queueBase, queueSize, soundRing}
 use Rattle.model.specs.Queue.{distance, waiting, pastCommand}
-use Rattle.model.specs.Register.{withCbaser, writerAccepted, withCwriter}
-use Rattle.model.specs.Reached.{ringOffset}
-use Rattle.model.specs.Steps.{withReader}
+use Rattle.model.specs.Writing.{withCbaser, writerAccepted}
+use Rattle.model.specs.With.{withReader, withWriter}
+use Rattle.model.specs.Passed.{ringOffset}
 use Rattle.model.proofs.Cases.{cases}
 use Rattle.model.proofs.Ring.{size-positive, wraps-whole, is-offset, offset-whole, offset-below, idle, ring, idle-sound, ring-sound, reader-below, offset-below-size, offset-here}
 
@@ -105,13 +105,13 @@ module _ (r : ItsRegisters) (s : soundRing r ≡ true) where
       (λ z. moved-sound z n)
 
   -- where CWRITER is written, with a value that is accepted
-  pub writer-sound : (writer : ℕ) → writerAccepted r writer ≡ true → soundRing (withCwriter r writer) ≡ true
+  pub writer-sound : (writer : ℕ) → writerAccepted r writer ≡ true → soundRing (withWriter r writer) ≡ true
   unfolding writerAccepted
   writer-sound writer t =
       cases (eqb (r .cbaser) 0)
-      (λ z. idle-sound (withCwriter r writer) z (record { reader = idle r s z .reader; writer = eqb-true _ _ (rw z at t) }))
+      (λ z. idle-sound (withWriter r writer) z (record { reader = idle r s z .reader; writer = eqb-true _ _ (rw z at t) }))
       (λ z. let k = ring r s z in
-      ring-sound (withCwriter r writer) z (record { base = k .base; reader = k .reader; writer = rw z at t }))
+      ring-sound (withWriter r writer) z (record { base = k .base; reader = k .reader; writer = rw z at t }))
 
 -- where CBASER is written: both offsets are 0
 pub base-sound : (r : ItsRegisters) (value : ℕ) → not (eqb (queueBase value) 0) ≡ true → soundRing (withCbaser r value) ≡ true

@@ -3,7 +3,7 @@
 use Prim.Native.Nat.{ℕ, _+_, _*_, _%_}
 use mathlib.Core.Bool.{Bool, true, false, _&&_, _||_, not}
 use mathlib.Core.List.{List, [], _∷_}
-use lib.ListN.{length, take, replicate}
+use lib.ListN.{take, replicate}
 use lib.Dec.{leb, ltb, eqb}
 use Rattle.model.specs.declared.GicVcpuId.{GicVcpuId}
 use Rattle.model.specs.declared.ItsConfig.{ItsConfig}
@@ -11,6 +11,7 @@ use Rattle.model.specs.declared.ItsRegisters.{ItsRegisters}
 use Rattle.model.specs.declared.ItsState.{ItsState}
 use Rattle.model.specs.Choose.{if_then_else_, isFound}
 use Rattle.model.specs.Arm.{_of_, _in-place_, _holding_, CBASER·Physical-Address, CBASER·Size, BASER·Type, BASER·Entry-Size, of-devices, of-collections, page, command-size, LPI-base}
+use Rattle.model.specs.With.{aUnit, theRegisters, aConfig}
 use Rattle.model.specs.Table.{look}
 use Rattle.model.specs.Keys.{sameProcessor, noDevice, noCollection, noTranslation}
 
@@ -56,9 +57,13 @@ soundRing r =
     else not (eqb (queueBase (r .cbaser)) 0)
     && (isQueueOffset (r .cbaser) (r .creadr) && isQueueOffset (r .cbaser) (r .cwriter))
 
+-- configuration and ring are sound
+abbrev pub sound : ItsConfig → ItsRegisters → Bool
+sound k r = soundConfig k && soundRing r
+
 -- a call on a unit whose configuration or ring is unsound is refused
 abbrev pub soundUnit : ItsState → Bool
-soundUnit u = soundConfig (u .config) && soundRing (u .registers)
+soundUnit u = sound (u .config) (u .registers)
 
 -- A fresh unit.
 
@@ -72,22 +77,15 @@ freshBasers = baserOf of-devices ∷ baserOf of-collections ∷ replicate 6 0
 
 -- disabled, CBASER and both offsets zero
 abbrev pub freshRegisters : ItsRegisters
-freshRegisters = record { enabled = false; cbaser = 0; creadr = 0; cwriter = 0; basers = freshBasers }
+freshRegisters = theRegisters false 0 0 0 freshBasers
 
 -- 32 devices, 32 collections, and a table of 256 translation records, all free
 abbrev pub freshUnit : ItsConfig → ItsState
-freshUnit k =
-    record {
-      config = k;
-      registers = freshRegisters;
-      devices = replicate 32 noDevice;
-      collections = replicate 32 noCollection;
-      translations = replicate 256 noTranslation;
-    }
+freshUnit k = aUnit k freshRegisters (replicate 32 noDevice) (replicate 32 noCollection) (replicate 256 noTranslation)
 
 -- The configuration of a unit that has none: no size of it is allowed, so the unit answers 1 to everything.
 abbrev pub noConfig : ItsConfig
-noConfig = record { «lpi_limit» = 0; «command_budget» = 0; «frame_size» = 0; «processor_count» = 0; processors = replicate 16 (record { 0 = 0 }) }
+noConfig = aConfig 0 0 0 0 (replicate 16 (record { 0 = 0 }))
 
 -- a fresh unit with that configuration
 abbrev pub noUnit : ItsState

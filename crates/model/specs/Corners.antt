@@ -5,15 +5,8 @@ use mathlib.Core.Bool.{Bool, true, false, _&&_}
 use mathlib.Core.List.{List, [], _∷_}
 use lib.ListN.{replicate}
 use lib.Dec.{eqb}
-use Rattle.model.specs.declared.ItsDeviceId.{ItsDeviceId}
-use Rattle.model.specs.declared.EventId.{EventId}
-use Rattle.model.specs.declared.CollectionId.{CollectionId}
-use Rattle.model.specs.declared.LpiId.{LpiId}
-use Rattle.model.specs.declared.GicVcpuId.{GicVcpuId}
 use Rattle.model.specs.declared.ItsConfig.{ItsConfig}
-use Rattle.model.specs.declared.ItsRegisters.{ItsRegisters}
 use Rattle.model.specs.declared.ItsState.{ItsState}
-use Rattle.model.specs.declared.ItsAction.{ItsAction}
 use Rattle.model.specs.declared.Written.{Written}
 use Rattle.model.specs.declared.Command.{Command}
 use Rattle.model.specs.declared.Command.the-variants.{Mapd, Mapc, Mapti, Int}
@@ -21,20 +14,14 @@ use Rattle.model.specs.Arm.{GITS-TYPER, GITS-CBASER, GITS-CWRITER, GITS-
 use Rattle.model.specs.Refusal.{verdictNumber, readNumbers, writeNumbers, translateNumbers}
 use Rattle.model.specs.Config.{queueSize}
 use Rattle.model.specs.Step.{check}
-use Rattle.model.specs.Queue.{Window, waiting}
+use Rattle.model.specs.With.{theRegisters, aConfig}
+use Rattle.model.specs.Queue.{waiting}
 use Rattle.model.specs.Entry.{configure, read, write, translate}
 use Rattle.model.specs.Met.{unitAfter}
 
 -- The configuration of 01's example, with any limit: budget 64, frame 65536, processors 0 and 1.
 abbrev pub withLimit : ℕ → ItsConfig
-withLimit limit =
-    record {
-      «lpi_limit» = limit;
-      «command_budget» = 64;
-      «frame_size» = 65536;
-      «processor_count» = 2;
-      processors = record { 0 = 0 } ∷ record { 0 = 1 } ∷ replicate 14 (record { 0 = 0 });
-    }
+withLimit limit = aConfig limit 64 65536 2 (record { 0 = 0 } ∷ record { 0 = 1 } ∷ replicate 14 (record { 0 = 0 }))
 
 -- a fresh unit with that limit
 abbrev pub fresh : ℕ → ItsState
@@ -109,7 +96,7 @@ corners =
     ∷ corner 6 (answers (writing (fresh 65535) GITS-CWRITER 32) 7 32)
     ∷ corner 6 (answers (writing (fresh 65535) GITS-CWRITER 0) 0 0)
     -- one page, reader 4064, writer 32: two wait
-    ∷ corner 7 (eqb (waiting (record { enabled = true; cbaser = 0x1000; creadr = 4064; cwriter = 32; basers = [] })) 2)
+    ∷ corner 7 (eqb (waiting (theRegisters true 0x1000 4064 32 [])) 2)
     -- all ones into BASER 0: 0xF9E7FFFFFFFFFFFF
     ∷ corner 8 (reads (writing (fresh 65535) GITS-BASER 0xFFFFFFFFFFFFFFFF .unit) GITS-BASER 8 0xF9E7FFFFFFFFFFFF)
     -- 4 bits: event 15 yes, 16 refused; 32 bits: 0xFFFFFFFF yes

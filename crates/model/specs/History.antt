@@ -114,16 +114,16 @@ partIn d e (Invall c) = leaves
 partIn d e Sync = leaves
 
 -- what a pair in force has
-pub record Entry : Type 0 where
+pub record PairEntry : Type 0 where
   pub lpi : LpiId
   pub collection : CollectionId
 
 -- an LPI and a collection
-abbrev pub anEntry : LpiId → CollectionId → Entry
+abbrev pub anEntry : LpiId → CollectionId → PairEntry
 anEntry l c = record { lpi = l; collection = c }
 
 -- what a command leaves of a pair
-abbrev pub pairAfter : Part → Option Entry → Option Entry
+abbrev pub pairAfter : Part → Option PairEntry → Option PairEntry
 pairAfter (maps l c) o = some (anEntry l c)
 pairAfter (moves c) o = whenFound o (λ x. some (anEntry (x .lpi) c))
 pairAfter ends o = none
@@ -131,7 +131,7 @@ pairAfter (endsIn c) o = whenFound o (λ x. if sameCollection (x .collection) c 
 pairAfter leaves o = o
 
 -- what a pair in force has, and nothing of one that is not in force
-abbrev pub pairNow : ItsDeviceId → EventId → List Command → Option Entry
+abbrev pub pairNow : ItsDeviceId → EventId → List Command → Option PairEntry
 pairNow d e [] = none
 pairNow d e (x ∷ h) = pairAfter (partIn d e x) (pairNow d e h)
 

@@ -6,7 +6,7 @@ use Prim.Native.Nat.{ℕ, _≤_}
 use mathlib.Core.Path.{_≡_}
 use mathlib.Core.Bool.{true}
 use mathlib.Core.List.{List}
-use mathlib.Core.Option.{Option, none, some}
+use mathlib.Core.Option.{none, some}
 use mathlib.Core.Logic.{_↔_}
 use Rattle.model.specs.declared.ItsDeviceId.{ItsDeviceId}
 use Rattle.model.specs.declared.EventId.{EventId}
@@ -39,7 +39,7 @@ pub record Backed (k : ItsConfig) (h : List Command) (d : ItsDeviceId) (l : LpiI
   pub processor-of : ProcessorOf h c processor
   pub processor-listed : listed k processor ≡ true
 
--- the promise
+-- The same over the model's own definitions: what is proved on the way to the promise that a reader finds in `guarantees: MappingsInForce`.
 pub record Promise (k : ItsConfig) (u : ItsState) (h : List Command) : Type 0 where
   -- a pair in force translates to what the commands give, and whatever translates is in force
   pub sent : (d : ItsDeviceId) (e : EventId) (l : LpiId) (p : GicVcpuId) → SentTo h d e l p ↔ (deliveryIn u d e ≡ some (delivery l p))

@@ -1,7 +1,6 @@
 -- Document 01: the guest window of "Sizes", the waiting commands of "Registers", and the queue's run of "Refusal numbers" and "Commands".
--- Numbers here have no upper end, so no address wraps.
 -- Assumes nothing.
-use Prim.Native.Nat.{ℕ, zero, suc, _+_, _-_, _*_, _/_, _%_}
+use Prim.Native.Nat.{ℕ, zero, suc, _+_, _-_, _*_, _/_, _%_, _^_, _<_}
 use mathlib.Core.Bool.{Bool, _&&_}
 use mathlib.Core.List.{List, [], _∷_, _++_}
 use mathlib.Core.Option.{Option, none, some}
@@ -19,6 +18,7 @@ use Rattle.model.specs.declared.Verdict.{Verdict}
 use Rattle.model.specs.declared.Verdict.the-variants.{Accepted, Refused}
 use Rattle.model.specs.Choose.{if_then_else_, _or_then_, ifFound}
 use Rattle.model.specs.Arm.{command-size}
+use Rattle.model.specs.With.{withRegisters, withReader}
 use Rattle.model.specs.Config.{queueBase, queueSize}
 use Rattle.model.specs.Decode.{opcodeOf, decode}
 use Rattle.model.specs.Step.{check, effect, actionsOf}
@@ -39,9 +39,9 @@ abbrev pub wordsAt : List ℕ → ℕ → List ℕ
 wordsAt l i =
     littleEndian 8 (drop i l) ∷ littleEndian 8 (drop (i + 8) l) ∷ littleEndian 8 (drop (i + 16) l) ∷ littleEndian 8 (drop (i + 24) l) ∷ []
 
--- a command can be read exactly if all 32 bytes lie in the window
+-- a command can be read exactly if all 32 bytes lie in the window, no address wrapping: guest addresses end at 2^64
 abbrev pub inWindow : Window → ℕ → Bool
-inWindow w a = leb (w .address) a && leb (a + command-size) (w .address + length (w .bytes))
+inWindow w a = leb (w .address) a && (leb (a + command-size) (w .address + length (w .bytes)) && leb (a + command-size) (2 ^ 64))
 
 -- the words of the command at a guest address
 unfoldable pub commandAt : Window → ℕ → Option (List ℕ)
@@ -58,6 +58,10 @@ waiting r = distance (r .creadr) (r .cwriter) (queueSize (r .cbaser)) / command-
 -- where a command of the queue stands: base plus offset, not cut
 abbrev pub commandAddress : ItsRegisters → ℕ → ℕ
 commandAddress r offset = queueBase (r .cbaser) + offset
+
+-- CREADR stands in the queue
+abbrev pub Stands : ItsState → Type 0
+Stands u = u .registers .creadr < queueSize (u .registers .cbaser)
 
 -- What becomes of the command on which CREADR stands.
 pub data Turn : Type 0 where
@@ -83,14 +87,9 @@ turn w u =
     (λ ws. turnOn u (opcodeOf ws) (decode ws))
     (stays NotInWindow 0)
 
--- CREADR passes a command
-abbrev pub withRegisters : ItsState → ItsRegisters → ItsState
-withRegisters u r = record { config = u .config; registers = r; devices = u .devices; collections = u .collections; translations = u .translations }
-
 -- CREADR goes on by 32, round the ring
 abbrev pub pastCommand : ItsRegisters → ItsRegisters
-pastCommand r =
-    record { enabled = r .enabled; cbaser = r .cbaser; creadr = (r .creadr + command-size) % queueSize (r .cbaser); cwriter = r .cwriter; basers = r .basers }
+pastCommand r = withReader r ((r .creadr + command-size) % queueSize (r .cbaser))
 
 -- a command is carried out when CREADR passes it
 unfoldable pub carryOut : ItsState → Command → ItsState

@@ -2,7 +2,26 @@
 -- Assumes nothing.
 use Prim.Native.Nat.{ℕ}
 use Rattle.model.specs.declared.Refusal.{Refusal}
-use Rattle.model.specs.declared.Refusal.the-variants.{Unsound, RowTooShort, InvalidAccess, Identification, BaseZero, WriterRefused, BudgetExceeded, NotInWindow, OpcodeUnknown, LpiOutOfRange, DeviceUnmapped, EventBeyondBits, CollectionUnmapped, PairUnmapped, ProcessorUnlisted, ResourceNotFound, TableFull, LineDoesNotFit}
+use Rattle.model.specs.declared.Refusal.the-variants.{
+  Unsound,
+  RowTooShort,
+  InvalidAccess,
+  Identification,
+  BaseZero,
+  WriterRefused,
+  BudgetExceeded,
+  NotInWindow,
+  OpcodeUnknown,
+  LpiOutOfRange,
+  DeviceUnmapped,
+  EventBeyondBits,
+  CollectionUnmapped,
+  PairUnmapped,
+  ProcessorUnlisted,
+  ResourceNotFound,
+  TableFull,
+  LineDoesNotFit,
+}
 use Rattle.model.specs.declared.Verdict.{Verdict}
 use Rattle.model.specs.declared.Verdict.the-variants.{Accepted, Refused}
 use Rattle.model.specs.declared.Executed.{Executed}

@@ -1,20 +1,37 @@
--- Document 01, "Registers": which widths an offset takes, what is read, and what a write merges.
+-- Document 01, "Registers": which register an offset belongs to, which widths it takes, what is read, and what a write merges.
 -- Assumes nothing.
 use Prim.Native.Nat.{ℕ, zero, suc, _+_, _-_, _*_, _/_, _%_, _^_}
 use mathlib.Core.Bool.{Bool, true, false, _&&_, _||_}
-use lib.ListN.{getD, set}
+use lib.ListN.{getD}
 use lib.Dec.{leb, ltb, eqb}
 use Rattle.model.specs.declared.ItsRegisters.{ItsRegisters}
-use Rattle.model.specs.declared.ItsState.{ItsState}
-use Rattle.model.specs.declared.WideRegisterBase.{WideRegisterBase}
-use Rattle.model.specs.declared.WideRegisterBase.the-variants.{Base, NotWide}
-use Rattle.model.specs.declared.BaserIndex.{BaserIndex}
-use Rattle.model.specs.declared.BaserIndex.the-variants.{Index, NotBaser}
+use Rattle.model.specs.declared.ItsConfig.{ItsConfig}
 use Rattle.model.specs.declared.Register.{Register}
 use Rattle.model.specs.declared.Register.the-variants.{Ctlr, Iidr, Typer, Cbaser, Cwriter, Creadr, Baser, Reserved}
 use Rattle.model.specs.Choose.{if_then_else_}
-use Rattle.model.specs.Arm.{Field, bits, _of_, _in-place_, _holding_, without, low-half, high-half, GITS-CTLR, GITS-IIDR, GITS-TYPER, GITS-CBASER, GITS-CWRITER, GITS-CREADR, GITS-BASER, GITS-BASER-COUNT, CTLR·Enabled, CTLR·Quiescent, IIDR·Implementer, TYPER·Physical, TYPER·ITT-entry-size, TYPER·ID-bits, TYPER·Devbits, BASER·Type, BASER·Entry-Size}
-use Rattle.model.specs.Config.{queueBase, isQueueOffset}
+use Rattle.model.specs.Arm.{
+  Field,
+  _of_,
+  _in-place_,
+  _holding_,
+  low-half,
+  high-half,
+  GITS-CTLR,
+  GITS-IIDR,
+  GITS-TYPER,
+  GITS-CBASER,
+  GITS-CWRITER,
+  GITS-CREADR,
+  GITS-BASER,
+  GITS-BASER-COUNT,
+  CTLR·Enabled,
+  CTLR·Quiescent,
+  IIDR·Implementer,
+  TYPER·Physical,
+  TYPER·ITT-entry-size,
+  TYPER·ID-bits,
+  TYPER·Devbits,
+}
 
 -- the offset is one of the eight bytes of the 64-bit register at base
 abbrev pub liesIn : ℕ → ℕ → Bool
@@ -36,20 +53,6 @@ registerAt offset =
     if liesIn GITS-CREADR offset then Creadr else
     if isBaser offset then Baser ((offset - GITS-BASER) / 8) else
     Reserved
-
--- the base of the 64-bit register that the offset lies in
-unfoldable pub wideRegisterBase : ℕ → WideRegisterBase
-wideRegisterBase offset =
-    if liesIn GITS-TYPER offset then Base GITS-TYPER else
-    if liesIn GITS-CBASER offset then Base GITS-CBASER else
-    if liesIn GITS-CWRITER offset then Base GITS-CWRITER else
-    if liesIn GITS-CREADR offset then Base GITS-CREADR else
-    if isBaser offset then Base (GITS-BASER + (offset - GITS-BASER) / 8 * 8) else
-    NotWide
-
--- the number of the BASER that the offset lies in
-unfoldable pub baserIndex : ℕ → BaserIndex
-baserIndex offset = if isBaser offset then Index ((offset - GITS-BASER) / 8) else NotBaser
 
 -- the 64-bit registers; CTLR and IIDR have 32 bits
 abbrev pub isWide : Register → Bool
@@ -105,16 +108,16 @@ typerValue limit =
     + TYPER·ID-bits holding (bitsNeeded 32 limit - 1)
     + TYPER·Devbits holding 15
 
--- what a register holds; every other offset reads 0
-abbrev pub valueOf : ItsState → Register → ℕ
-valueOf u Ctlr = ctlrValue (u .registers .enabled)
-valueOf u Iidr = iidrValue
-valueOf u Typer = typerValue (u .config .«lpi_limit»)
-valueOf u Cbaser = u .registers .cbaser
-valueOf u Cwriter = u .registers .cwriter
-valueOf u Creadr = u .registers .creadr
-valueOf u (Baser n) = getD (u .registers .basers) n 0
-valueOf u Reserved = 0
+-- what a register holds, by configuration and registers: nothing that is read depends on the tables. Every other offset reads 0
+abbrev pub valueOf : ItsConfig → ItsRegisters → Register → ℕ
+valueOf k r Ctlr = ctlrValue (r .enabled)
+valueOf k r Iidr = iidrValue
+valueOf k r Typer = typerValue (k .«lpi_limit»)
+valueOf k r Cbaser = r .cbaser
+valueOf k r Cwriter = r .cwriter
+valueOf k r Creadr = r .creadr
+valueOf k r (Baser n) = getD (r .basers) n 0
+valueOf k r Reserved = 0
 
 -- an aligned access of 4 bytes is to a register's low half, or to its high half
 abbrev pub halfAt : ℕ → Field
@@ -125,8 +128,8 @@ unfoldable pub readPart : ℕ → ℕ → ℕ → ℕ
 readPart offset width value = if eqb width 8 then value else halfAt offset of value
 
 -- what an access reads of the register that it is to
-abbrev pub readOf : ItsState → ℕ → ℕ → Register → ℕ
-readOf u offset width r = if isWide r then readPart offset width (valueOf u r) else valueOf u r
+abbrev pub readOf : ItsConfig → ItsRegisters → ℕ → ℕ → Register → ℕ
+readOf k r offset width n = if isWide n then readPart offset width (valueOf k r n) else valueOf k r n
 
 -- Writing.
 
@@ -139,39 +142,5 @@ merged offset width present value =
     else high-half holding (low-half of value) + low-half of present
 
 -- what a write of this width writes to the register that it is to
-abbrev pub valueWritten : ItsState → ℕ → ℕ → ℕ → Register → ℕ
-valueWritten u offset width value r = if isWide r then merged offset width (valueOf u r) value else value
-
--- CTLR: bit 0 of a write enables or disables
-abbrev pub withEnabled : ItsRegisters → Bool → ItsRegisters
-withEnabled r enabled = record { enabled = enabled; cbaser = r .cbaser; creadr = r .creadr; cwriter = r .cwriter; basers = r .basers }
-
--- the value written enables
-abbrev pub enables : ℕ → Bool
-enables value = eqb (CTLR·Enabled of value) 1
-
--- CBASER: the value is stored whole, both offsets become 0; mappings stay
-abbrev pub withCbaser : ItsRegisters → ℕ → ItsRegisters
-withCbaser r value = record { enabled = r .enabled; cbaser = value; creadr = 0; cwriter = 0; basers = r .basers }
-
--- BASER n keeps bits 52:48 and 58:56
-unfoldable pub baserAfter : ℕ → ℕ → ℕ
-baserAfter present value =
-    without BASER·Type (without BASER·Entry-Size value) + BASER·Type in-place present + BASER·Entry-Size in-place present
-
--- the registers after a write of BASER n
-abbrev pub withBaser : ItsRegisters → ℕ → ℕ → ItsRegisters
-withBaser r n value =
-    record { enabled = r .enabled; cbaser = r .cbaser; creadr = r .creadr; cwriter = r .cwriter; basers = set (r .basers) n (baserAfter (getD (r .basers) n 0) value) }
-
--- CWRITER: with CBASER zero the whole value counts; else bits 19:0 are taken, which are Arm's Offset and the five bits below it
-abbrev pub writerTaken : ItsRegisters → ℕ → ℕ
-writerTaken r value = if eqb (r .cbaser) 0 then value else bits 19 0 of value
-
--- with CBASER zero, only 0 is accepted; else refused unless a multiple of 32 below the queue size
-unfoldable pub writerAccepted : ItsRegisters → ℕ → Bool
-writerAccepted r writer = if eqb (r .cbaser) 0 then eqb writer 0 else isQueueOffset (r .cbaser) writer
-
--- the registers after an accepted CWRITER write
-abbrev pub withCwriter : ItsRegisters → ℕ → ItsRegisters
-withCwriter r writer = record { enabled = r .enabled; cbaser = r .cbaser; creadr = r .creadr; cwriter = writer; basers = r .basers }
+abbrev pub valueWritten : ItsConfig → ItsRegisters → ℕ → ℕ → ℕ → Register → ℕ
+valueWritten k r offset width value n = if isWide n then merged offset width (valueOf k r n) value else value

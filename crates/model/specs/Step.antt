@@ -30,6 +30,7 @@ use Rattle.model.specs.Choose.{if_then_else_, _or_then_, whenFound, ifFo
 use Rattle.model.specs.Arm.{LPI-base}
 use Rattle.model.specs.Table.{look, room, store, dropAll}
 use Rattle.model.specs.Keys.{sameCollection, isDevice, isCollection, isPair, ofDevice, aDevice, aCollection, aTranslation, noDevice, noCollection, noTranslation, delivery, eventAsLpi}
+use Rattle.model.specs.With.{withDevices, withCollections, withTranslations}
 use Rattle.model.specs.Config.{listed}
 
 -- What the unit holds: the lowest-numbered used record counts.
@@ -128,18 +129,6 @@ check u (Invall c) = collectionMapped u c or Refused CollectionUnmapped then Acc
 check u Sync = Accepted
 
 -- The effects. Each says which of the three tables changes, and how.
-
--- the unit with other devices
-abbrev pub withDevices : ItsState → List ItsDevice → ItsState
-withDevices u ds = record { config = u .config; registers = u .registers; devices = ds; collections = u .collections; translations = u .translations }
-
--- the unit with other collections
-abbrev pub withCollections : ItsState → List ItsCollection → ItsState
-withCollections u cs = record { config = u .config; registers = u .registers; devices = u .devices; collections = cs; translations = u .translations }
-
--- the unit with other translations
-abbrev pub withTranslations : ItsState → List Translation → ItsState
-withTranslations u ts = record { config = u .config; registers = u .registers; devices = u .devices; collections = u .collections; translations = ts }
 
 -- MAPD, valid: store the event bits, keep translations
 unfoldable pub storeDevice : ItsDeviceId → ℕ → ItsState → ItsState

@@ -7,8 +7,7 @@ use mathlib.Core.List.{List, [], _∷_}
 use mathlib.Core.Option.{Option, none, some}
 use lib.ListN.{length, set}
 use lib.Dec.{ltb}
-use Rattle.model.specs.declared.Place.{Place}
-use Rattle.model.specs.Choose.{if_then_else_, isFound}
+use Rattle.model.specs.Choose.{if_then_else_}
 
 module _ {A : Type 0} where
   -- the number of the first record that passes p, or the table's size if none does
@@ -25,10 +24,6 @@ module _ {A : Type 0} where
   -- lowest-numbered free record; the table's size where there is none
   unfoldable pub place : (A → Bool) → (A → Bool) → List A → ℕ
   place p used rs = if ltb (firstAt p rs) (length rs) then firstAt p rs else firstAt (λ a. not (used a)) rs
-
-  -- the place, with whether the key was found
-  abbrev pub placeOf : (A → Bool) → (A → Bool) → List A → Place
-  placeOf p used rs = record { at = place p used rs; found = isFound (look p rs) }
 
   -- there is such a place: the table is not full, or the key needs no new record
   unfoldable pub room : (A → Bool) → (A → Bool) → List A → Bool

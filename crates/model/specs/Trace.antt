@@ -5,7 +5,7 @@ use Prim.Native.String.{String}
 use mathlib.Core.Bool.{Bool, true, false, _&&_}
 use mathlib.Core.List.{List, [], _∷_, _++_, map}
 use lib.ListN.{length, take, drop, getD, replicate}
-use lib.Dec.{leb, ltb, eqb}
+use lib.Dec.{leb, eqb}
 use Rattle.model.specs.declared.ItsDeviceId.{ItsDeviceId}
 use Rattle.model.specs.declared.EventId.{EventId}
 use Rattle.model.specs.declared.GicVcpuId.{GicVcpuId}
@@ -19,6 +19,7 @@ use Rattle.model.specs.Refusal.{numberOf, verdictNumber, ReadNumbers, re
 use Rattle.model.specs.Config.{noUnit}
 use Rattle.model.specs.Queue.{Window, littleEndian}
 use Rattle.model.specs.Register.{oneIf}
+use Rattle.model.specs.With.{aConfig}
 use Rattle.model.specs.Entry.{configure, read, Outcome, write, translate}
 
 -- The records.
@@ -44,15 +45,10 @@ numbers i zero l = []
 numbers i (suc n) l = record { 0 = number i 2 l } ∷ numbers (i + 2) n l
 
 -- CF: limit 4, budget 4, frame 4, count n 1, n numbers of 2 bytes. A configuration has places for 16: of more it holds the first 16
-abbrev pub configIn : List ℕ → ItsConfig
-configIn l =
-    record {
-      «lpi_limit» = number 2 4 l;
-      «command_budget» = number 6 4 l;
-      «frame_size» = number 10 4 l;
-      «processor_count» = number 14 1 l;
-      processors = take 16 (numbers 15 (number 14 1 l) l ++ replicate 16 (record { 0 = 0 }));
-    }
+abbrev pub configRead : List ℕ → ItsConfig
+configRead l =
+    aConfig (number 2 4 l) (number 6 4 l) (number 10 4 l) (number 14 1 l)
+    (take 16 (numbers 15 (number 14 1 l) l ++ replicate 16 (record { 0 = 0 })))
 
 -- GM: address 8, length 4, bytes
 abbrev pub windowIn : List ℕ → Window
@@ -69,7 +65,7 @@ marked mark l = leb 2 (length l) && (eqb (getD l 0 0) (getD (ascii mark) 0 0) &&
 -- a bad mark, a short record and a GM of over 4,096 bytes are broken
 unfoldable pub parse : List ℕ → Parsed
 parse l =
-    if marked "CF" l then (if leb 15 (length l) then sized (15 + 2 * number 14 1 l) l (CF (configIn l)) else broken) else
+    if marked "CF" l then (if leb 15 (length l) then sized (15 + 2 * number 14 1 l) l (CF (configRead l)) else broken) else
     if marked "GM" l then (if leb 14 (length l) && leb (number 10 4 l) 4096 then sized (14 + number 10 4 l) l (GM (windowIn l)) else broken) else
     if marked "RD" l then sized 11 l (RD (number 2 8 l) (number 10 1 l)) else
     if marked "WR" l then sized 19 l (WR (number 2 8 l) (number 10 1 l) (number 11 8 l)) else

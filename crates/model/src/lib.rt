@@ -59,23 +59,6 @@ pub struct ItsState {
     pub translations: [Translation; 256],
 }
 
-// Where a search of a table ended: the place where the key's record is or would go, and whether the key was found.
-pub struct Place {
-    pub at: usize,
-    pub found: bool,
-}
-
-// The base of the 64-bit register that an offset lies in, and the number of the BASER that it lies in.
-pub enum WideRegisterBase {
-    Base(u64),
-    NotWide,
-}
-
-pub enum BaserIndex {
-    Index(usize),
-    NotBaser,
-}
-
 // The register that an offset of the frame belongs to.
 pub enum Register {
     Ctlr,
@@ -192,51 +175,6 @@ pub struct ItsAction {
     pub pending: bool,
 }
 
-// What a command comes to, before anything is stored: a refusal, what it changes, or what it hands over.
-pub enum Plan {
-    Refuse(Refusal),
-    Keep,
-    Act(ItsAction),
-    StoreDevice(usize, ItsDevice),
-    DropDevice(ItsDeviceId),
-    StoreCollection(usize, ItsCollection),
-    DropCollection(CollectionId),
-    StoreTranslation(usize, Translation),
-    DropPair,
-}
-
-// What the one search of the translations found: the place of the command's pair, and what stands there.
-pub struct Seen {
-    pub place: Place,
-    pub entry: Translation,
-}
-
-// The pair that a command names, and the four records with which the search for it begins, of 64 times four: a command that names no pair
-// searches none of them.
-pub struct Sought {
-    pub device: ItsDeviceId,
-    pub event: EventId,
-    pub from: usize,
-}
-
-// What the owner of the unit does about a plan: whether it refuses, and why; whether it hands over an action, and which; whether it drops a
-// device or a collection, or the pair; and the record that it stores in each table, with its place, which is beyond the table where nothing
-// is stored.
-pub struct Change {
-    pub refuses: bool,
-    pub why: Refusal,
-    pub acts: bool,
-    pub action: ItsAction,
-    pub drops: bool,
-    pub discards: bool,
-    pub device_at: usize,
-    pub device: ItsDevice,
-    pub collection_at: usize,
-    pub collection: ItsCollection,
-    pub pair_at: usize,
-    pub pair: Translation,
-}
-
 // The answers of the public entries.
 pub enum ReadAnswer {
     Value(u64),
@@ -259,6 +197,15 @@ pub enum WriteAnswer {
 pub enum TranslateAnswer {
     Delivered(Delivery),
     NotDelivered(Refusal),
+}
+
+// What a write does to the registers before any command runs: the registers that it leaves, whether they have a new base, whether the queue then
+// runs, and the answer where it does not.
+pub struct RegisterWrite {
+    pub registers: ItsRegisters,
+    pub rebased: bool,
+    pub runs: bool,
+    pub answer: WriteAnswer,
 }
 
 // An answer that comes with a unit stands beside it.

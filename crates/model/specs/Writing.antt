@@ -1,0 +1,106 @@
+-- Document 01, "Registers" and "Refusal numbers": what a write does to the registers before any command runs. It says what the write stores, whether
+-- that is a new base, whether the queue then runs, and the answer where it does not. The entry, what is promised of a write, and both texts of the
+-- unit go by it.
+-- Assumes nothing.
+use Prim.Native.Nat.{ℕ, _+_}
+use mathlib.Core.Bool.{Bool, true, false, not}
+use lib.ListN.{getD, set}
+use lib.Dec.{eqb}
+use Rattle.model.specs.declared.ItsConfig.{ItsConfig}
+use Rattle.model.specs.declared.ItsRegisters.{ItsRegisters}
+use Rattle.model.specs.declared.Register.{Register}
+use Rattle.model.specs.declared.Register.the-variants.{Ctlr, Iidr, Typer, Cbaser, Cwriter, Creadr, Baser, Reserved}
+use Rattle.model.specs.declared.RegisterWrite.{RegisterWrite}
+use Rattle.model.specs.declared.Refusal.{Refusal}
+use Rattle.model.specs.declared.Refusal.the-variants.{BaseZero, WriterRefused}
+use Rattle.model.specs.declared.WriteAnswer.the-variants.{Taken, NotTaken}
+use Rattle.model.specs.Choose.{if_then_else_, _or_then_}
+use Rattle.model.specs.Arm.{bits, _of_, _in-place_, without, CTLR·Enabled, BASER·Type, BASER·Entry-Size}
+use Rattle.model.specs.With.{withEnabled, withRing, withWriter, withBasers}
+use Rattle.model.specs.Config.{queueBase, isQueueOffset}
+use Rattle.model.specs.Register.{registerAt, valueWritten}
+use Rattle.model.specs.Access.{checkWrite, ifAccepted}
+
+-- The ways in which a write goes.
+
+-- refused: the registers stay, and nothing is done. The offset is 0, but for 7 at CWRITER
+abbrev pub refusing : ItsRegisters → ℕ → Refusal → RegisterWrite
+refusing r offset why = record { registers = r; rebased = false; runs = false; answer = NotTaken why 0 offset 0 }
+
+-- stored, or ignored (answer 0), with nothing to run
+abbrev pub storing : ItsRegisters → RegisterWrite
+storing r = record { registers = r; rebased = false; runs = false; answer = Taken 0 0 }
+
+-- stored with a new base, and nothing to run
+abbrev pub rebasing : ItsRegisters → RegisterWrite
+rebasing r = record { registers = r; rebased = true; runs = false; answer = Taken 0 0 }
+
+-- stored; then an enabled unit runs its queue
+abbrev pub going : ItsRegisters → RegisterWrite
+going r = record { registers = r; rebased = false; runs = true; answer = Taken 0 0 }
+
+-- Each register, with the value that is written: one of 64 bits is merged before.
+
+-- CTLR: bit 0 of a write enables or disables
+abbrev pub enables : ℕ → Bool
+enables value = eqb (CTLR·Enabled of value) 1
+
+-- then an enabled unit runs its queue
+unfoldable pub toCtlr : ItsRegisters → ℕ → RegisterWrite
+toCtlr r value = going (withEnabled r (enables value))
+
+-- CBASER: the value is stored whole, both offsets become 0; mappings stay
+abbrev pub withCbaser : ItsRegisters → ℕ → ItsRegisters
+withCbaser r value = withRing r value 0 0
+
+-- ignored (answer 0) while enabled; merged base zero is refused. Bit 63 is not looked at
+unfoldable pub toCbaser : ItsRegisters → ℕ → RegisterWrite
+toCbaser r value =
+    if r .enabled
+    then storing r
+    else (not (eqb (queueBase value) 0) or refusing r 0 BaseZero then rebasing (withCbaser r value))
+
+-- CWRITER: with CBASER zero the whole value counts; else bits 19:0 are taken, which are Arm's Offset and the five bits below it
+abbrev pub writerTaken : ItsRegisters → ℕ → ℕ
+writerTaken r value = if eqb (r .cbaser) 0 then value else bits 19 0 of value
+
+-- with CBASER zero, only 0 is accepted; else refused unless a multiple of 32 below the queue size
+unfoldable pub writerAccepted : ItsRegisters → ℕ → Bool
+writerAccepted r writer = if eqb (r .cbaser) 0 then eqb writer 0 else isQueueOffset (r .cbaser) writer
+
+-- then an enabled unit runs its queue
+unfoldable pub toCwriter : ItsRegisters → ℕ → RegisterWrite
+toCwriter r value =
+    writerAccepted r (writerTaken r value) or refusing r (writerTaken r value) WriterRefused then
+    going (withWriter r (writerTaken r value))
+
+-- BASER n keeps bits 52:48 and 58:56
+unfoldable pub baserAfter : ℕ → ℕ → ℕ
+baserAfter present value =
+    without BASER·Type (without BASER·Entry-Size value) + BASER·Type in-place present + BASER·Entry-Size in-place present
+
+-- the registers after a write of BASER n
+abbrev pub withBaser : ItsRegisters → ℕ → ℕ → ItsRegisters
+withBaser r n value = withBasers r (set (r .basers) n (baserAfter (getD (r .basers) n 0) value))
+
+-- ignored (answer 0) while enabled
+unfoldable pub toBaser : ItsRegisters → ℕ → ℕ → RegisterWrite
+toBaser r n value = if r .enabled then storing r else storing (withBaser r n value)
+
+-- TYPER, CREADR and IIDR ignore writes, and so does every other offset
+abbrev pub writeRegister : ItsRegisters → ℕ → Register → RegisterWrite
+writeRegister r value Ctlr = toCtlr r value
+writeRegister r value Iidr = storing r
+writeRegister r value Typer = storing r
+writeRegister r value Cbaser = toCbaser r value
+writeRegister r value Cwriter = toCwriter r value
+writeRegister r value Creadr = storing r
+writeRegister r value (Baser n) = toBaser r n value
+writeRegister r value Reserved = storing r
+
+-- An access. One that is refused at the entry stores nothing and runs nothing; one that is taken writes the merged value.
+unfoldable pub registerWrite : ItsConfig → ItsRegisters → ℕ → ℕ → ℕ → ℕ → RegisterWrite
+registerWrite k r room offset width value =
+    ifAccepted (checkWrite k r room offset width)
+    (writeRegister r (valueWritten k r offset width value (registerAt offset)) (registerAt offset))
+    (refusing r 0)
