@@ -6,15 +6,16 @@ use mathlib.Core.Path.{_≡_, refl, sym, ap, _∙_}
 use mathlib.Core.Bool.{true, false, _||_}
 use lib.Dec.{leb, ltb, eqb}
 use borrow.Author.Tests.{le-leb, lt-leb, lt-ltb, ltb-true, leb-true, leb-false, ne-eqb}
-use Rattle.model.specs.declared.WideRegisterBase.{WideRegisterBase}
-use Rattle.model.specs.declared.WideRegisterBase.the-variants.{Base, NotWide}
-use Rattle.model.specs.declared.BaserIndex.{BaserIndex}
-use Rattle.model.specs.declared.BaserIndex.the-variants.{Index, NotBaser}
+use Rattle.words.specs.declared.WideRegisterBase.{WideRegisterBase}
+use Rattle.words.specs.declared.WideRegisterBase.the-variants.{Base, NotWide}
+use Rattle.words.specs.declared.BaserIndex.{BaserIndex}
+use Rattle.words.specs.declared.BaserIndex.the-variants.{Index, NotBaser}
 use Rattle.model.specs.declared.Register.{Register}
 use Rattle.model.specs.declared.Register.the-variants.{Typer, Cbaser, Cwriter, Creadr, Baser, Reserved}
 use Rattle.model.specs.Choose.{if_then_else_}
 use Rattle.model.specs.Arm.{GITS-TYPER, GITS-CBASER, GITS-CWRITER, GITS-CREADR}
-use Rattle.model.specs.Register.{liesIn, isBaser, registerAt, wideRegisterBase, baserIndex}
+use Rattle.model.specs.Register.{liesIn, isBaser, registerAt}
+use Rattle.words.specs.Offsets.{wideRegisterBase, baserIndex}
 use Rattle.model.proofs.Cases.{cases, never, and-left, and-right}
 
 abbrev pub ofIndex : BaserIndex → Register

@@ -8,8 +8,7 @@ use borrow.Author.Tests.{eq-eqb, ne-eqb}
 use Rattle.model.specs.declared.ItsRegisters.{ItsRegisters}
 use Rattle.model.specs.declared.Refusal.the-variants.{BaseZero}
 use Rattle.model.specs.Config.{queueBase}
-use Rattle.model.specs.Register.{withCbaser, withBaser}
-use Rattle.registers.specs.Writing.{refusing, storing, toCbaser, toBaser}
+use Rattle.model.specs.Writing.{refusing, storing, rebasing, withCbaser, toCbaser, withBaser, toBaser}
 
 module _ (r : ItsRegisters) (value : ℕ) where
   pub cbaser-ignored : r .enabled ≡ true → toCbaser r value ≡ storing r
@@ -21,7 +20,7 @@ module _ (r : ItsRegisters) (value : ℕ) where
   unfolding toCbaser
   cbaser-refused off b e z = rw (off, sym (ap (λ n. eqb n 0) e) ∙ eq-eqb b 0 z)
 
-  pub cbaser-stored : r .enabled ≡ false → (b : ℕ) → b ≡ queueBase value → (b ≡ 0 → ⊥) → toCbaser r value ≡ storing (withCbaser r value)
+  pub cbaser-stored : r .enabled ≡ false → (b : ℕ) → b ≡ queueBase value → (b ≡ 0 → ⊥) → toCbaser r value ≡ rebasing (withCbaser r value)
   unfolding toCbaser
   cbaser-stored off b e z = rw (off, sym (ap (λ n. eqb n 0) e) ∙ ne-eqb b 0 z)
 

@@ -1,16 +1,17 @@
 // Which register an offset belongs to, and which accesses are taken.
-use model::BaserIndex;
 use model::ItsConfig;
+use model::ItsRegisters;
 use model::Refusal;
 use model::Register;
 use model::Verdict;
-use model::WideRegisterBase;
+use words::BaserIndex;
+use words::WideRegisterBase;
 ghost use mathlib.Core.Path.{_≡_};
 ghost use mathlib.Core.Bool.{_||_};
 ghost use lib.Dec.{eqb};
 ghost use Rattle.model.specs.Arm.{isIdentification};
 ghost use Rattle.model.specs.Register.{registerAt, isWide, isReserved, takesWidth};
-ghost use Rattle.model.specs.Entry.{inFrame, checkAccess};
+ghost use Rattle.model.specs.Access.{inFrame, checkAccess, checkRead, checkWrite};
 
 pub fn register_at(offset: u64) -> Register
     ensures { λ r. ⌜ r ≡ registerAt offset ⌝ }
@@ -122,4 +123,33 @@ pub fn validate_its_access(config: ItsConfig, offset: u64, width: u8) -> Verdict
         return Verdict::Refused(Refusal::InvalidAccess);
     }
     Verdict::Accepted
+}
+
+pub fn check_read(config: ItsConfig, registers: ItsRegisters, offset: u64, width: u8) -> Verdict
+    ensures { λ r. ⌜ r ≡ checkRead config registers offset width ⌝ }
+{
+    if !crate::sizes::sound_unit(config, registers) {
+        return Verdict::Refused(Refusal::Unsound);
+    }
+    validate_its_access(config, offset, width)
+}
+
+// The order of a write's refusals; `room` is the length of the row that the host lends.
+pub fn check_write(
+    config: ItsConfig,
+    registers: ItsRegisters,
+    room: usize,
+    offset: u64,
+    width: u8,
+) -> Verdict
+    ensures { λ r. ⌜ r ≡ checkWrite config registers room offset width ⌝ }
+{
+    if !crate::sizes::sound_unit(config, registers) {
+        return Verdict::Refused(Refusal::Unsound);
+    }
+    let budget = config.command_budget as usize;
+    if room < budget {
+        return Verdict::Refused(Refusal::RowTooShort);
+    }
+    validate_its_access(config, offset, width)
 }

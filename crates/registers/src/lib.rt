@@ -1,24 +1,21 @@
 // The registers of the frame: which accesses are taken (access.rt), which configurations and rings are sound (sizes.rt), what a register reads, and
-// what a write leaves in the registers. Nothing here looks at a table. What a write to a register leaves is said in specs/Writing.antt.
+// what a write leaves in the registers. Nothing here looks at a table.
 pub mod access;
 pub mod sizes;
 
 use model::ItsConfig;
 use model::ItsRegisters;
+use model::ReadAnswer;
 use model::Refusal;
 use model::Register;
+use model::RegisterWrite;
+use model::Verdict;
 use model::WriteAnswer;
 ghost use mathlib.Core.Path.{_≡_};
 ghost use lib.ListN.{getD};
-ghost use Rattle.model.specs.Register.{ctlrValue, registerAt, valueOf, readOf, valueWritten, withBaser, writerTaken, writerAccepted};
-ghost use Rattle.registers.specs.Writing.{bare, refusing, storing, going, toCtlr, toCbaser, toCwriter, toBaser, writing, accepting};
-
-// What a write comes to before any command runs: the registers that it leaves, its answer so far, and whether the queue is to run.
-pub struct RegisterWrite {
-    pub registers: ItsRegisters,
-    pub answer: WriteAnswer,
-    pub runs: bool,
-}
+ghost use Rattle.model.specs.Register.{ctlrValue, registerAt, valueOf, readOf, valueWritten};
+ghost use Rattle.model.specs.Writing.{refusing, storing, rebasing, going, toCtlr, toCbaser, writerTaken, writerAccepted, toCwriter, withBaser, toBaser, writeRegister, registerWrite};
+ghost use Rattle.model.specs.Entry.{readFrom};
 
 // GITS_CTLR: the enable bit, and bit 31.
 fn ctlr(enabled: bool) -> u64
@@ -36,7 +33,7 @@ fn baser(registers: ItsRegisters, index: usize) -> u64
 }
 
 fn register_value(config: ItsConfig, registers: ItsRegisters, register: Register) -> u64
-    ensures { λ r. ⌜ r ≡ valueOf (bare config registers) register ⌝ }
+    ensures { λ r. ⌜ r ≡ valueOf config registers register ⌝ }
 {
     match register {
         Register::Ctlr => ctlr(registers.enabled),
@@ -50,9 +47,9 @@ fn register_value(config: ItsConfig, registers: ItsRegisters, register: Register
     }
 }
 
-// What an access reads.
-pub fn read_register(config: ItsConfig, registers: ItsRegisters, offset: u64, width: u8) -> u64
-    ensures { λ r. ⌜ r ≡ readOf (bare config registers) offset width (registerAt offset) ⌝ }
+// What an access that is taken reads.
+fn read_register(config: ItsConfig, registers: ItsRegisters, offset: u64, width: u8) -> u64
+    ensures { λ r. ⌜ r ≡ readOf config registers offset width (registerAt offset) ⌝ }
 {
     let register = crate::access::register_at(offset);
     let value = register_value(config, registers, register);
@@ -60,6 +57,19 @@ pub fn read_register(config: ItsConfig, registers: ItsRegisters, offset: u64, wi
         return words::read_wide_register(value, offset, width);
     }
     value
+}
+
+pub fn read_from(config: ItsConfig, registers: ItsRegisters, offset: u64, width: u8) -> ReadAnswer
+    ensures { λ r. ⌜ r ≡ readFrom config registers offset width ⌝ }
+{
+    let verdict = crate::access::check_read(config, registers, offset, width);
+    match verdict {
+        Verdict::Accepted => {
+            let value = read_register(config, registers, offset, width);
+            ReadAnswer::Value(value)
+        }
+        Verdict::Refused(why) => ReadAnswer::NoValue(why),
+    }
 }
 
 // What an access writes: a narrow one to a 64-bit register leaves the other half.
@@ -71,7 +81,7 @@ fn merge_value(
     width: u8,
     value: u64,
 ) -> u64
-    ensures { λ r. ⌜ r ≡ valueWritten (bare config registers) offset width value register ⌝ }
+    ensures { λ r. ⌜ r ≡ valueWritten config registers offset width value register ⌝ }
 {
     if crate::access::is_wide(register) {
         let current = register_value(config, registers, register);
@@ -80,21 +90,22 @@ fn merge_value(
     value
 }
 
-// The three ways in which a write goes: refused, stored with nothing to run, stored with the queue to run.
-pub fn refused(registers: ItsRegisters, offset: u64, refusal: Refusal) -> RegisterWrite
+// The ways in which a write goes: refused; stored with nothing to run; stored with a new base; stored with the queue to run.
+fn refused(registers: ItsRegisters, offset: u64, refusal: Refusal) -> RegisterWrite
     ensures { λ r. ⌜ r ≡ refusing registers offset refusal ⌝ }
 {
     let why = refusal;
     let kept = registers;
     RegisterWrite {
         registers: kept,
+        rebased: false,
+        runs: false,
         answer: WriteAnswer::NotTaken {
             refusal: why,
             opcode: 0,
             offset: offset,
             done: 0,
         },
-        runs: false,
     }
 }
 
@@ -104,11 +115,27 @@ fn stored(registers: ItsRegisters) -> RegisterWrite
     let kept = registers;
     RegisterWrite {
         registers: kept,
+        rebased: false,
+        runs: false,
         answer: WriteAnswer::Taken {
             done: 0,
             actions: 0,
         },
+    }
+}
+
+fn stored_anew(registers: ItsRegisters) -> RegisterWrite
+    ensures { λ r. ⌜ r ≡ rebasing registers ⌝ }
+{
+    let kept = registers;
+    RegisterWrite {
+        registers: kept,
+        rebased: true,
         runs: false,
+        answer: WriteAnswer::Taken {
+            done: 0,
+            actions: 0,
+        },
     }
 }
 
@@ -118,11 +145,12 @@ fn stored_to_run(registers: ItsRegisters) -> RegisterWrite
     let kept = registers;
     RegisterWrite {
         registers: kept,
+        rebased: false,
+        runs: true,
         answer: WriteAnswer::Taken {
             done: 0,
             actions: 0,
         },
-        runs: true,
     }
 }
 
@@ -149,7 +177,7 @@ fn set_cbaser(registers: ItsRegisters, value: u64) -> RegisterWrite
     next.cbaser = value;
     next.creadr = 0;
     next.cwriter = 0;
-    stored(next)
+    stored_anew(next)
 }
 
 // With CBASER zero the whole value counts.
@@ -208,7 +236,7 @@ fn set_baser(registers: ItsRegisters, index: usize, value: u64) -> RegisterWrite
 }
 
 fn write_register(registers: ItsRegisters, register: Register, value: u64) -> RegisterWrite
-    ensures { λ r. ⌜ r ≡ writing registers value register ⌝ }
+    ensures { λ r. ⌜ r ≡ writeRegister registers value register ⌝ }
 {
     match register {
         Register::Ctlr => set_enabled(registers, value),
@@ -222,17 +250,35 @@ fn write_register(registers: ItsRegisters, register: Register, value: u64) -> Re
     }
 }
 
-// A write that was not refused at the entry.
-pub fn write_accepted(
+// A write that is taken.
+fn write_accepted(
     config: ItsConfig,
     registers: ItsRegisters,
     offset: u64,
     width: u8,
     value: u64,
 ) -> RegisterWrite
-    ensures { λ r. ⌜ r ≡ accepting config registers offset width value ⌝ }
+    ensures { λ r. ⌜ r ≡ writeRegister registers (valueWritten config registers offset width value (registerAt offset)) (registerAt offset) ⌝ }
 {
     let register = crate::access::register_at(offset);
     let merged = merge_value(config, registers, register, offset, width, value);
     write_register(registers, register, merged)
+}
+
+// A write up to its run; `room` is the length of the row that the host lends.
+pub fn write_access(
+    config: ItsConfig,
+    registers: ItsRegisters,
+    room: usize,
+    offset: u64,
+    width: u8,
+    value: u64,
+) -> RegisterWrite
+    ensures { λ r. ⌜ r ≡ registerWrite config registers room offset width value ⌝ }
+{
+    let verdict = crate::access::check_write(config, registers, room, offset, width);
+    match verdict {
+        Verdict::Accepted => write_accepted(config, registers, offset, width, value),
+        Verdict::Refused(why) => refused(registers, 0, why),
+    }
 }

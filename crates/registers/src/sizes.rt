@@ -4,12 +4,11 @@ use model::GicVcpuId;
 use model::ItsConfig;
 use model::ItsRegisters;
 ghost use mathlib.Core.Path.{_≡_};
-ghost use mathlib.Core.Bool.{_&&_};
 ghost use lib.ListN.{take, drop};
 ghost use Rattle.model.specs.Choose.{isFound};
 ghost use Rattle.model.specs.Table.{look};
 ghost use Rattle.model.specs.Keys.{sameProcessor};
-ghost use Rattle.model.specs.Config.{noneTwice, soundConfig, isQueueOffset, soundRing};
+ghost use Rattle.model.specs.Config.{listed, noneTwice, soundConfig, isQueueOffset, soundRing, sound};
 
 // Whether a processor is among the first `count` of the sixteen, from one of them on.
 pub fn is_found_from(
@@ -34,6 +33,14 @@ pub fn is_found_from(
         }
         i += 1;
     }
+}
+
+pub fn is_listed(config: ItsConfig, target: GicVcpuId) -> bool
+    ensures { λ r. ⌜ r ≡ listed config target ⌝ }
+{
+    let processors = config.processors;
+    let count = config.processor_count as usize;
+    is_found_from(processors, count, 0, target)
 }
 
 // Whether none of the first `count` of the sixteen comes again after itself.
@@ -93,7 +100,7 @@ pub fn sound_ring(registers: ItsRegisters) -> bool
 }
 
 pub fn sound_unit(config: ItsConfig, registers: ItsRegisters) -> bool
-    ensures { λ r. ⌜ r ≡ (soundConfig config && soundRing registers) ⌝ }
+    ensures { λ r. ⌜ r ≡ sound config registers ⌝ }
 {
     let sizes = sound_config(config);
     let ring = sound_ring(registers);

@@ -1,20 +1,32 @@
 // The words of the ring, of a command and of the registers, taken apart and put together. The contract of each function says that its
 // answer is that of a definition of the model, which names the field of Arm that is read.
-use model::BaserIndex;
 use model::CollectionId;
 use model::EventId;
 use model::GicVcpuId;
 use model::ItsDeviceId;
 use model::LpiId;
-use model::WideRegisterBase;
 ghost use mathlib.Core.Path.{_≡_};
 ghost use Prim.Native.Nat.{_+_, _≤_};
 ghost use lib.ListN.{length, drop, getD};
 ghost use lib.Dec.{ltb};
 ghost use Rattle.model.specs.Config.{queueBase, queueSize};
-ghost use Rattle.model.specs.Decode.{opcodeOf, deviceIn, eventIn, eventBitsIn, lpiIn, collectionIn, processorIn, validIn};
+ghost use Rattle.model.specs.Decode.{opcodeOf, deviceField, eventField, eventBitsField, lpiField, collectionField, processorField, validField};
 ghost use Rattle.model.specs.Queue.{littleEndian, wordsAt, distance};
-ghost use Rattle.model.specs.Register.{liesIn, isBaser, wideRegisterBase, baserIndex, readPart, merged, baserAfter, bitsNeeded, typerValue};
+ghost use Rattle.model.specs.Register.{liesIn, isBaser, readPart, merged, bitsNeeded, typerValue};
+ghost use Rattle.model.specs.Writing.{baserAfter};
+ghost use Rattle.model.specs.Step.{eventBelow};
+ghost use Rattle.words.specs.Offsets.{wideRegisterBase, baserIndex};
+
+// The base of the 64-bit register that an offset lies in, and the number of the BASER that it lies in.
+pub enum WideRegisterBase {
+    Base(u64),
+    NotWide,
+}
+
+pub enum BaserIndex {
+    Index(usize),
+    NotBaser,
+}
 
 // GITS_BASER n as a guest's write leaves it: the entry's size and the type are read only.
 pub fn set_baser(present: u64, value: u64) -> u64
@@ -145,49 +157,49 @@ pub fn opcode(words: [u64; 4]) -> u8
 }
 
 pub fn device(words: [u64; 4]) -> ItsDeviceId
-    ensures { λ r. ⌜ r ≡ deviceIn words ⌝ }
+    ensures { λ r. ⌜ r ≡ deviceField words ⌝ }
 {
     let w = words[0];
     ItsDeviceId((w / 0x1_0000_0000 % 0x1_0000_0000) as u32)
 }
 
 pub fn event(words: [u64; 4]) -> EventId
-    ensures { λ r. ⌜ r ≡ eventIn words ⌝ }
+    ensures { λ r. ⌜ r ≡ eventField words ⌝ }
 {
     let w = words[1];
     EventId((w % 0x1_0000_0000) as u32)
 }
 
 pub fn event_bits(words: [u64; 4]) -> u8
-    ensures { λ r. ⌜ r ≡ eventBitsIn words ⌝ }
+    ensures { λ r. ⌜ r ≡ eventBitsField words ⌝ }
 {
     let w = words[1];
     (w % 32 + 1) as u8
 }
 
 pub fn lpi(words: [u64; 4]) -> LpiId
-    ensures { λ r. ⌜ r ≡ lpiIn words ⌝ }
+    ensures { λ r. ⌜ r ≡ lpiField words ⌝ }
 {
     let w = words[1];
     LpiId((w / 0x1_0000_0000 % 0x1_0000_0000) as u32)
 }
 
 pub fn collection(words: [u64; 4]) -> CollectionId
-    ensures { λ r. ⌜ r ≡ collectionIn words ⌝ }
+    ensures { λ r. ⌜ r ≡ collectionField words ⌝ }
 {
     let w = words[2];
     CollectionId((w % 0x1_0000) as u16)
 }
 
 pub fn target(words: [u64; 4]) -> GicVcpuId
-    ensures { λ r. ⌜ r ≡ processorIn words ⌝ }
+    ensures { λ r. ⌜ r ≡ processorField words ⌝ }
 {
     let w = words[2];
     GicVcpuId((w / 0x1_0000 % 0x1_0000) as u16)
 }
 
 pub fn valid(words: [u64; 4]) -> bool
-    ensures { λ r. ⌜ r ≡ validIn words ⌝ }
+    ensures { λ r. ⌜ r ≡ validField words ⌝ }
 {
     let w = words[2];
     w / 0x8000_0000_0000_0000 % 2 == 1
@@ -285,4 +297,14 @@ pub fn its_typer(lpi_limit: u32) -> u64
     let bits = bits_needed(lpi_limit);
     let id_bits = if bits == 0 { 0 } else { bits - 1 };
     1 + 7 * 16 + id_bits as u64 * 256 + 15 * 8192
+}
+
+// Event below 2^bits.
+pub fn event_below(event_bits: u8, event: EventId) -> bool
+    ensures { λ r. ⌜ r ≡ eventBelow «event_bits» event ⌝ }
+{
+    if 32 <= event_bits {
+        return true;
+    }
+    (event.0 as u64) < 1u64 << event_bits
 }

@@ -7,12 +7,6 @@ use Rattle.model.proofs.TableLoops.{beyond}
 use Rattle.registers.proofs.baser.Statement.{statement}
 use Rattle.registers.proofs.baser.Tie as tie
 
-mul-result : tie.Need-mul-result
-mul-result c = search needs
-
-array-read-result : tie.Need-array-read-result
-array-read-result c = search needs
-
 returns : tie.Need-returns
 returns c = search needs
 
@@ -23,4 +17,4 @@ returns-2 c =
     beyond (a .registers .basers) 0 long (c .if1 .left) refl
 
 pub baser-spec : {M : Type 1} → statement M
-baser-spec = tie.close (tie.spec mul-result array-read-result returns returns-2)
+baser-spec = tie.close (tie.spec (λ c. search needs) (λ c. search needs) returns returns-2)

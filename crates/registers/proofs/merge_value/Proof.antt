@@ -5,27 +5,14 @@ use mathlib.Core.Path.{sym, _∙_}
 use Rattle.registers.proofs.merge_value.Statement.{statement}
 use Rattle.registers.proofs.merge_value.Tie as tie
 
-is-wide-requires : tie.Need-is-wide-requires
-is-wide-requires c κs = search needs
-
-register-value-requires : tie.Need-register-value-requires
-register-value-requires c κs = search needs
-
-merge-wide-register-requires : tie.Need-merge-wide-register-requires
-merge-wide-register-requires c κs = search needs
-
 returns : tie.Need-returns
 returns c = rw (sym (c .before .before .before .is-wide .ensures) ∙ c .before .before .if1 .taken, ← (c .before .register-value .ensures)) (c .merge-wide-register .ensures)
 
 returns-2 : tie.Need-returns-2
-returns-2 c = search needs
+returns-2 c = rw (sym (c .before .is-wide .ensures) ∙ c .if1 .left)
 
 pub merge-value-spec : {M : Type 1} → statement M
 merge-value-spec =
     tie.close
     (tie.spec
-    is-wide-requires
-    register-value-requires
-    merge-wide-register-requires
-    returns
-    returns-2)
+    (λ c κs. search needs) (λ c κs. search needs) (λ c κs. search needs) returns returns-2)

@@ -5,18 +5,6 @@ use mathlib.Core.Path.{sym, _∙_}
 use Rattle.registers.proofs.read_register.Statement.{statement}
 use Rattle.registers.proofs.read_register.Tie as tie
 
-register-at-requires : tie.Need-register-at-requires
-register-at-requires c κs = search needs
-
-register-value-requires : tie.Need-register-value-requires
-register-value-requires c κs = search needs
-
-is-wide-requires : tie.Need-is-wide-requires
-is-wide-requires c κs = search needs
-
-read-wide-register-requires : tie.Need-read-wide-register-requires
-read-wide-register-requires c κs = search needs
-
 returns : tie.Need-returns
 returns c = rw (← (c .before .before .before .before .register-at .ensures), sym (c .before .before .is-wide .ensures) ∙ c .before .if1 .taken, ← (c .before .before .before .register-value .ensures)) (c .read-wide-register .ensures)
 
@@ -27,9 +15,4 @@ pub read-register-spec : {M : Type 1} → statement M
 read-register-spec =
     tie.close
     (tie.spec
-    register-at-requires
-    register-value-requires
-    is-wide-requires
-    read-wide-register-requires
-    returns
-    returns-2)
+    (λ c κs. search needs) (λ c κs. search needs) (λ c κs. search needs) (λ c κs. search needs) returns returns-2)

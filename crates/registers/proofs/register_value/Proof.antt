@@ -4,39 +4,6 @@ use borrow.Author.Needs.{needs}
 use Rattle.registers.proofs.register_value.Statement.{statement}
 use Rattle.registers.proofs.register_value.Tie as tie
 
-enum-told : tie.Need-enum-told
-enum-told c = search needs
-
-ctlr-requires : tie.Need-ctlr-requires
-ctlr-requires c κs = search needs
-
-enum-told-2 : tie.Need-enum-told-2
-enum-told-2 c = search needs
-
-enum-told-3 : tie.Need-enum-told-3
-enum-told-3 c = search needs
-
-its-typer-requires : tie.Need-its-typer-requires
-its-typer-requires c κs = search needs
-
-enum-told-4 : tie.Need-enum-told-4
-enum-told-4 c = search needs
-
-enum-told-5 : tie.Need-enum-told-5
-enum-told-5 c = search needs
-
-enum-told-6 : tie.Need-enum-told-6
-enum-told-6 c = search needs
-
-enum-known-register : tie.Need-enum-known-register
-enum-known-register c = search needs
-
-baser-requires : tie.Need-baser-requires
-baser-requires c κs = search needs
-
-enum-told-7 : tie.Need-enum-told-7
-enum-told-7 c = search needs
-
 returns : tie.Need-returns
 returns c = rw (c .before .enum-told .given .1) (c .ctlr .ensures)
 
@@ -65,22 +32,6 @@ pub register-value-spec : {M : Type 1} → statement M
 register-value-spec =
     tie.close
     (tie.spec
-    enum-told
-    ctlr-requires
-    enum-told-2
-    enum-told-3
-    its-typer-requires
-    enum-told-4
-    enum-told-5
-    enum-told-6
-    enum-known-register
-    baser-requires
-    enum-told-7
-    returns
-    returns-2
-    returns-3
-    returns-4
-    returns-5
-    returns-6
-    returns-7
-    returns-8)
+    (λ c. search needs) (λ c κs. search needs) (λ c. search needs) (λ c. search needs) (λ c κs. search needs) (λ c. search needs) (λ c. search needs)
+    (λ c. search needs) (λ c. search needs) (λ c κs. search needs) (λ c. search needs) returns returns-2 returns-3 returns-4 returns-5 returns-6
+    returns-7 returns-8)

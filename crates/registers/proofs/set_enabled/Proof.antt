@@ -4,12 +4,9 @@ use borrow.Author.Needs.{needs}
 use Prim.Native.Nat.{_/_}
 use native.Mathlib.Omega.{arith}
 use mathlib.Core.Path.{_≡_}
-use Rattle.registers.specs.Writing.{toCtlr}
+use Rattle.model.specs.Writing.{toCtlr}
 use Rattle.registers.proofs.set_enabled.Statement.{statement}
 use Rattle.registers.proofs.set_enabled.Tie as tie
-
-stored-to-run-requires : tie.Need-stored-to-run-requires
-stored-to-run-requires c κs = search needs
 
 returns : tie.Need-returns
 unfolding toCtlr
@@ -19,4 +16,4 @@ returns c =
     rw same (c .stored-to-run .ensures)
 
 pub set-enabled-spec : {M : Type 1} → statement M
-set-enabled-spec = tie.close (tie.spec stored-to-run-requires returns)
+set-enabled-spec = tie.close (tie.spec (λ c κs. search needs) returns)

@@ -8,18 +8,6 @@ use Rattle.model.proofs.TableLaws.{set-beyond}
 use Rattle.registers.proofs.with_baser.Statement.{statement}
 use Rattle.registers.proofs.with_baser.Tie as tie
 
-baser-requires : tie.Need-baser-requires
-baser-requires c κs = search needs
-
-set-baser-requires : tie.Need-set-baser-requires
-set-baser-requires c κs = search needs
-
-mul-left : tie.Need-mul-left
-mul-left c = search needs
-
-element-write-left : tie.Need-element-write-left
-element-write-left c = search needs
-
 returns : tie.Need-returns
 returns c = rw (c .before .set-baser .ensures, c .before .before .baser .ensures)
 
@@ -32,4 +20,5 @@ returns-2 c =
 pub with-baser-spec : {M : Type 1} → statement M
 with-baser-spec =
     tie.close
-    (tie.spec baser-requires set-baser-requires mul-left element-write-left returns returns-2)
+    (tie.spec
+    (λ c κs. search needs) (λ c κs. search needs) (λ c. search needs) (λ c. search needs) returns returns-2)

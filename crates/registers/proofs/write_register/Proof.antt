@@ -4,54 +4,6 @@ use borrow.Author.Needs.{needs}
 use Rattle.registers.proofs.write_register.Statement.{statement}
 use Rattle.registers.proofs.write_register.Tie as tie
 
-enum-told : tie.Need-enum-told
-enum-told c = search needs
-
-set-enabled-requires : tie.Need-set-enabled-requires
-set-enabled-requires c κs = search needs
-
-enum-told-2 : tie.Need-enum-told-2
-enum-told-2 c = search needs
-
-stored-requires : tie.Need-stored-requires
-stored-requires c κs = search needs
-
-enum-told-3 : tie.Need-enum-told-3
-enum-told-3 c = search needs
-
-stored-requires-2 : tie.Need-stored-requires-2
-stored-requires-2 c κs = search needs
-
-enum-told-4 : tie.Need-enum-told-4
-enum-told-4 c = search needs
-
-set-cbaser-requires : tie.Need-set-cbaser-requires
-set-cbaser-requires c κs = search needs
-
-enum-told-5 : tie.Need-enum-told-5
-enum-told-5 c = search needs
-
-set-cwriter-requires : tie.Need-set-cwriter-requires
-set-cwriter-requires c κs = search needs
-
-enum-told-6 : tie.Need-enum-told-6
-enum-told-6 c = search needs
-
-stored-requires-3 : tie.Need-stored-requires-3
-stored-requires-3 c κs = search needs
-
-enum-known-register : tie.Need-enum-known-register
-enum-known-register c = search needs
-
-set-baser-requires : tie.Need-set-baser-requires
-set-baser-requires c κs = search needs
-
-enum-told-7 : tie.Need-enum-told-7
-enum-told-7 c = search needs
-
-stored-requires-4 : tie.Need-stored-requires-4
-stored-requires-4 c κs = search needs
-
 returns : tie.Need-returns
 returns c = rw (c .before .enum-told .given .1) (c .set-enabled .ensures)
 
@@ -80,27 +32,7 @@ pub write-register-spec : {M : Type 1} → statement M
 write-register-spec =
     tie.close
     (tie.spec
-    enum-told
-    set-enabled-requires
-    enum-told-2
-    stored-requires
-    enum-told-3
-    stored-requires-2
-    enum-told-4
-    set-cbaser-requires
-    enum-told-5
-    set-cwriter-requires
-    enum-told-6
-    stored-requires-3
-    enum-known-register
-    set-baser-requires
-    enum-told-7
-    stored-requires-4
-    returns
-    returns-2
-    returns-3
-    returns-4
-    returns-5
-    returns-6
-    returns-7
-    returns-8)
+    (λ c. search needs) (λ c κs. search needs) (λ c. search needs) (λ c κs. search needs) (λ c. search needs) (λ c κs. search needs)
+    (λ c. search needs) (λ c κs. search needs) (λ c. search needs) (λ c κs. search needs) (λ c. search needs) (λ c κs. search needs)
+    (λ c. search needs) (λ c κs. search needs) (λ c. search needs) (λ c κs. search needs) returns returns-2 returns-3 returns-4 returns-5 returns-6
+    returns-7 returns-8)

@@ -2,7 +2,7 @@
 -- Assumes nothing.
 use borrow.Author.Needs.{needs}
 use borrow.Author.Tests.{eq-eqb, ne-eqb}
-use Rattle.model.specs.Register.{writerAccepted}
+use Rattle.model.specs.Writing.{writerAccepted}
 use Rattle.registers.proofs.writer_accepted.Statement.{statement}
 use Rattle.registers.proofs.writer_accepted.Tie as tie
 
@@ -10,12 +10,9 @@ returns : tie.Need-returns
 unfolding writerAccepted
 returns c = simp (eq-eqb _ _ (c .if1 .taken))
 
-is-queue-offset-requires : tie.Need-is-queue-offset-requires
-is-queue-offset-requires c κs = search needs
-
 returns-2 : tie.Need-returns-2
 unfolding writerAccepted
 returns-2 c = rw (ne-eqb (c .before .before .args .registers .cbaser) 0 (c .before .if1 .left)) (c .is-queue-offset .ensures)
 
 pub writer-accepted-spec : {M : Type 1} → statement M
-writer-accepted-spec = tie.close (tie.spec returns is-queue-offset-requires returns-2)
+writer-accepted-spec = tie.close (tie.spec returns (λ c κs. search needs) returns-2)

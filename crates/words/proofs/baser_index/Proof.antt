@@ -2,13 +2,10 @@
 -- Assumes nothing.
 use borrow.Author.Needs.{needs}
 use mathlib.Core.Path.{sym, _∙_}
-use Rattle.model.specs.Register.{baserIndex}
+use Rattle.words.specs.Offsets.{baserIndex}
 use Rattle.words.proofs.Offsets.{from-baser}
 use Rattle.words.proofs.baser_index.Statement.{statement}
 use Rattle.words.proofs.baser_index.Tie as tie
-
-is-baser-requires : tie.Need-is-baser-requires
-is-baser-requires c κs = search needs
 
 sub-t3 : tie.Need-sub-t3
 sub-t3 c = from-baser _ (sym (c .before .is-baser .ensures) ∙ c .if1 .taken)
@@ -22,4 +19,4 @@ unfolding baserIndex
 returns-2 c = rw (sym (c .before .is-baser .ensures) ∙ c .if1 .left)
 
 pub baser-index-spec : {M : Type 1} → statement M
-baser-index-spec = tie.close (tie.spec is-baser-requires sub-t3 returns returns-2)
+baser-index-spec = tie.close (tie.spec (λ c κs. search needs) sub-t3 returns returns-2)

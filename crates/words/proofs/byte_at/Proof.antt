@@ -9,9 +9,6 @@ use borrow.Author.Tests.{ltb-true, ltb-false}
 use Rattle.words.proofs.byte_at.Statement.{statement}
 use Rattle.words.proofs.byte_at.Tie as tie
 
-is-there-requires : tie.Need-is-there-requires
-is-there-requires c κs = search needs
-
 -- past the test, the byte is there
 inside : (c : tie.Then1) → c .before .before .before .args .at + c .before .before .before .args .past < length (c .before .before .before .args .bytes .now)
 inside c =
@@ -35,4 +32,4 @@ returns-2 c =
     sym (List·getD-eq-default (a .bytes .now) 0 beyond)
 
 pub byte-at-spec : {M : Type 1} → statement M
-byte-at-spec = tie.close (tie.spec is-there-requires add-result shared-slice-read-result returns returns-2)
+byte-at-spec = tie.close (tie.spec (λ c κs. search needs) add-result shared-slice-read-result returns returns-2)

@@ -9,9 +9,6 @@ use borrow.Author.Tests.{ltb-true}
 use Rattle.words.proofs.decode_words.Statement.{statement}
 use Rattle.words.proofs.decode_words.Tie as tie
 
-is-there-requires : tie.Need-is-there-requires
-is-there-requires c κs = search needs
-
 -- the test says that all 32 bytes are there
 inside : (c : tie.Then1) → c .before .before .before .args .at + 32 ≤ length (c .before .before .before .args .bytes .now)
 inside c =
@@ -42,18 +39,6 @@ whole-word-requires-4 c κs = omega (arith, inside (c .before .before .before))
 returns : tie.Need-returns
 returns c = search needs
 
-word-at-requires : tie.Need-word-at-requires
-word-at-requires c κs = search needs
-
-word-past-requires : tie.Need-word-past-requires
-word-past-requires c κs = search needs
-
-word-past-requires-2 : tie.Need-word-past-requires-2
-word-past-requires-2 c κs = search needs
-
-word-past-requires-3 : tie.Need-word-past-requires-3
-word-past-requires-3 c κs = search needs
-
 returns-2 : tie.Need-returns-2
 returns-2 c = search needs
 
@@ -61,17 +46,5 @@ pub decode-words-spec : {M : Type 1} → statement M
 decode-words-spec =
     tie.close
     (tie.spec
-    is-there-requires
-    whole-word-requires
-    add-whole-word
-    whole-word-requires-2
-    add-whole-word-2
-    whole-word-requires-3
-    add-whole-word-3
-    whole-word-requires-4
-    returns
-    word-at-requires
-    word-past-requires
-    word-past-requires-2
-    word-past-requires-3
-    returns-2)
+    (λ c κs. search needs) whole-word-requires add-whole-word whole-word-requires-2 add-whole-word-2 whole-word-requires-3 add-whole-word-3
+    whole-word-requires-4 returns (λ c κs. search needs) (λ c κs. search needs) (λ c κs. search needs) (λ c κs. search needs) returns-2)

@@ -5,14 +5,8 @@ use native.Mathlib.Nat.{div-one}
 use Rattle.words.proofs.event.Statement.{statement}
 use Rattle.words.proofs.event.Tie as tie
 
-array-read-w : tie.Need-array-read-w
-array-read-w c = search needs
-
-cast-t7 : tie.Need-cast-t7
-cast-t7 c = search needs
-
 returns : tie.Need-returns
 returns c = simp div-one
 
 pub event-spec : {M : Type 1} → statement M
-event-spec = tie.close (tie.spec array-read-w cast-t7 returns)
+event-spec = tie.close (tie.spec (λ c. search needs) (λ c. search needs) returns)

@@ -17,9 +17,6 @@ no-sum at past n h =
     (λ e. lt-ltb past (n - at) (omega (arith, ltb-true (at + past) n e)) ∙ sym e)
     (λ e. le-ltb past (n - at) (omega (arith, ltb-false (at + past) n e)) ∙ sym e)
 
-sub-result : tie.Need-sub-result
-sub-result c = search needs
-
 returns : tie.Need-returns
 returns c = no-sum _ _ _ (c .if1 .taken)
 
@@ -29,4 +26,4 @@ returns-2 c =
     le-ltb (a .at) (length (a .bytes .now)) (c .if1 .left) ∙ sym (le-ltb (a .at + a .past) (length (a .bytes .now)) (omega arith))
 
 pub is-there-spec : {M : Type 1} → statement M
-is-there-spec = tie.close (tie.spec sub-result returns returns-2)
+is-there-spec = tie.close (tie.spec (λ c. search needs) returns returns-2)

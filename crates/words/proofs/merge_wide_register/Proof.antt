@@ -11,18 +11,6 @@ returns : tie.Need-returns
 unfolding merged
 returns c = simp (eq-eqb _ _ (c .if1 .taken))
 
-mul-result : tie.Need-mul-result
-mul-result c = search needs
-
-add-result : tie.Need-add-result
-add-result c = search needs
-
-mul-result-2 : tie.Need-mul-result-2
-mul-result-2 c = search needs
-
-add-result-2 : tie.Need-add-result-2
-add-result-2 c = search needs
-
 returns-2 : tie.Need-returns-2
 unfolding merged
 returns-2 c = simp (ne-eqb _ _ (c .before .if1 .left), eq-eqb _ _ (c .if2 .taken)) (omega arith)
@@ -33,4 +21,6 @@ returns-3 c = simp (ne-eqb _ _ (c .before .if1 .left), ne-eqb _ _ (c .if2 .left)
 
 pub merge-wide-register-spec : {M : Type 1} → statement M
 merge-wide-register-spec =
-    tie.close (tie.spec returns mul-result add-result mul-result-2 add-result-2 returns-2 returns-3)
+    tie.close
+    (tie.spec
+    returns (λ c. search needs) (λ c. search needs) (λ c. search needs) (λ c. search needs) returns-2 returns-3)

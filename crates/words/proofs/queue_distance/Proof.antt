@@ -12,9 +12,6 @@ returns : tie.Need-returns
 unfolding distance
 returns c = simp (le-leb _ _ (c .if1 .taken))
 
-sub-behind : tie.Need-sub-behind
-sub-behind c = search needs
-
 returns-2 : tie.Need-returns-2
 unfolding distance
 returns-2 c = simp (lt-leb _ _ (c .before .if1 .left)) (omega arith)
@@ -24,4 +21,4 @@ unfolding distance
 returns-3 c = simp (lt-leb _ _ (c .before .if1 .left)) (omega arith)
 
 pub queue-distance-spec : {M : Type 1} → statement M
-queue-distance-spec = tie.close (tie.spec returns sub-behind returns-2 returns-3)
+queue-distance-spec = tie.close (tie.spec returns (λ c. search needs) returns-2 returns-3)

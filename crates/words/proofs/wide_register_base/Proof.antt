@@ -4,7 +4,8 @@ use mathlib.Core.Path.{_≡_, sym, _∙_}
 use mathlib.Core.Bool.{false}
 use borrow.Author.Needs.{needs}
 use Rattle.model.specs.Arm.{GITS-TYPER, GITS-CBASER, GITS-CWRITER, GITS-CREADR}
-use Rattle.model.specs.Register.{liesIn, wideRegisterBase}
+use Rattle.model.specs.Register.{liesIn}
+use Rattle.words.specs.Offsets.{wideRegisterBase}
 use Rattle.words.proofs.Offsets.{from-baser}
 use Rattle.words.proofs.wide_register_base.Statement.{statement}
 use Rattle.words.proofs.wide_register_base.Tie as tie
@@ -22,22 +23,13 @@ past3 c = sym (c .before .lies-in3 .ensures) ∙ c .if3 .left
 past4 : (c : tie.Else4) → liesIn GITS-CREADR (c .before .before .before .before .before .before .before .before .args .offset) ≡ false
 past4 c = sym (c .before .lies-in4 .ensures) ∙ c .if4 .left
 
-lies-in-requires : tie.Need-lies-in-requires
-lies-in-requires c κs = search needs
-
 returns : tie.Need-returns
 unfolding wideRegisterBase
 returns c = rw (sym (c .before .lies-in .ensures) ∙ c .if1 .taken)
 
-lies-in-requires-2 : tie.Need-lies-in-requires-2
-lies-in-requires-2 c κs = search needs
-
 returns-2 : tie.Need-returns-2
 unfolding wideRegisterBase
 returns-2 c = rw (past1 (c .before .before), sym (c .before .lies-in2 .ensures) ∙ c .if2 .taken)
-
-lies-in-requires-3 : tie.Need-lies-in-requires-3
-lies-in-requires-3 c κs = search needs
 
 returns-3 : tie.Need-returns-3
 unfolding wideRegisterBase
@@ -45,9 +37,6 @@ returns-3 c =
     let e2 = c .before .before in
     let e1 = e2 .before .before in
     rw (past1 e1, past2 e2, sym (c .before .lies-in3 .ensures) ∙ c .if3 .taken)
-
-lies-in-requires-4 : tie.Need-lies-in-requires-4
-lies-in-requires-4 c κs = search needs
 
 returns-4 : tie.Need-returns-4
 unfolding wideRegisterBase
@@ -57,17 +46,8 @@ returns-4 c =
     let e1 = e2 .before .before in
     rw (past1 e1, past2 e2, past3 e3, sym (c .before .lies-in4 .ensures) ∙ c .if4 .taken)
 
-is-baser-requires : tie.Need-is-baser-requires
-is-baser-requires c κs = search needs
-
 sub-t7 : tie.Need-sub-t7
 sub-t7 c = from-baser _ (sym (c .before .is-baser .ensures) ∙ c .if5 .taken)
-
-mul-t9 : tie.Need-mul-t9
-mul-t9 c = search needs
-
-add-t10 : tie.Need-add-t10
-add-t10 c = search needs
 
 returns-5 : tie.Need-returns-5
 unfolding wideRegisterBase
@@ -91,17 +71,5 @@ pub wide-register-base-spec : {M : Type 1} → statement M
 wide-register-base-spec =
     tie.close
     (tie.spec
-    lies-in-requires
-    returns
-    lies-in-requires-2
-    returns-2
-    lies-in-requires-3
-    returns-3
-    lies-in-requires-4
-    returns-4
-    is-baser-requires
-    sub-t7
-    mul-t9
-    add-t10
-    returns-5
-    returns-6)
+    (λ c κs. search needs) returns (λ c κs. search needs) returns-2 (λ c κs. search needs) returns-3 (λ c κs. search needs) returns-4
+    (λ c κs. search needs) sub-t7 (λ c. search needs) (λ c. search needs) returns-5 returns-6)

@@ -10,16 +10,10 @@ use Rattle.words.proofs.LittleEndian.{none-there}
 use Rattle.words.proofs.word_past.Statement.{statement}
 use Rattle.words.proofs.word_past.Tie as tie
 
-is-there-requires : tie.Need-is-there-requires
-is-there-requires c κs = search needs
-
 add-word-at : tie.Need-add-word-at
 add-word-at c =
     let a = c .before .before .before .args in
     omega (arith, ltb-true (a .at + a .past) (length (a .bytes .now)) (sym (c .before .is-there .ensures) ∙ c .if1 .taken))
-
-word-at-requires : tie.Need-word-at-requires
-word-at-requires c κs = search needs
 
 returns : tie.Need-returns
 returns c = search needs
@@ -32,4 +26,4 @@ returns-2 c =
     sym (none-there 8 (a .at + a .past) (a .bytes .now) beyond)
 
 pub word-past-spec : {M : Type 1} → statement M
-word-past-spec = tie.close (tie.spec is-there-requires add-word-at word-at-requires returns returns-2)
+word-past-spec = tie.close (tie.spec (λ c κs. search needs) add-word-at (λ c κs. search needs) returns returns-2)

@@ -9,14 +9,8 @@ use Rattle.registers.proofs.Offsets.{some-width, before-end}
 use Rattle.registers.proofs.access.in_frame.Statement.{statement}
 use Rattle.registers.proofs.access.in_frame.Tie as tie
 
-is-access-width-requires : tie.Need-is-access-width-requires
-is-access-width-requires c κs = search needs
-
 returns : tie.Need-returns
 returns c = rw (sym (c .before .is-access-width .ensures) ∙ not-true _ (c .if1 .taken))
-
-cast-frame : tie.Need-cast-frame
-cast-frame c = search needs
 
 returns-2 : tie.Need-returns-2
 returns-2 c =
@@ -33,4 +27,6 @@ returns-3 c =
 
 pub in-frame-spec : {M : Type 1} → statement M
 in-frame-spec =
-    tie.close (tie.spec is-access-width-requires returns cast-frame returns-2 rem-result returns-3)
+    tie.close
+    (tie.spec
+    (λ c κs. search needs) returns (λ c. search needs) returns-2 rem-result returns-3)

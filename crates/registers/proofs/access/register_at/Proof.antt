@@ -15,34 +15,23 @@ returns-2 : tie.Need-returns-2
 unfolding registerAt
 returns-2 c = simp (ne-eqb _ _ (c .before .if1 .left), eq-eqb _ _ (c .if2 .taken))
 
-wide-register-base-requires : tie.Need-wide-register-base-requires
-wide-register-base-requires c κs = search needs
-
-enum-known-base : tie.Need-enum-known-base
-enum-known-base c = search needs
-
-enum-told : tie.Need-enum-told
-enum-told c = search needs
-
 returns-3 : tie.Need-returns-3
-returns-3 c = rw (is-base (c .before .before .before .before .before .args .offset) (c .before .before .before .before .if1 .left) (c .before .before .before .if2 .left) (c .before .before .wide-register-base .ensures) (c .enum-told .given .1))
-
-baser-index-requires : tie.Need-baser-index-requires
-baser-index-requires c κs = search needs
-
-enum-known-index : tie.Need-enum-known-index
-enum-known-index c = search needs
-
-enum-told-2 : tie.Need-enum-told-2
-enum-told-2 c = search needs
+returns-3 c =
+    let w = c .before .before in
+    let f = w .before in
+    let z = f .before in
+    rw (is-base (z .before .args .offset) (z .if1 .left) (f .if2 .left) (w .wide-register-base .ensures) (c .enum-told .given .1))
 
 returns-4 : tie.Need-returns-4
 returns-4 c =
     let told = c .before .before .before .before .before in
+    let w = told .before .before in
+    let f = w .before in
+    let z = f .before in
     let rest = c .before .before .before .match2 .rest in
     let b = told .base .given .0 .0 in
     rw (
-      is-base (c .before .before .before .before .before .before .before .before .before .before .args .offset) (c .before .before .before .before .before .before .before .before .before .if1 .left) (c .before .before .before .before .before .before .before .before .if2 .left) (c .before .before .before .before .before .before .before .wide-register-base .ensures) (told .base .given .1),
+      is-base (z .before .args .offset) (z .if1 .left) (f .if2 .left) (w .wide-register-base .ensures) (told .base .given .1),
       ne-eqb b 8 (rest .0 .0 .0 .1),
       ne-eqb b 128 (rest .0 .0 .1),
       ne-eqb b 136 (rest .0 .1),
@@ -52,24 +41,47 @@ returns-4 c =
     )
 
 returns-5 : tie.Need-returns-5
-returns-5 c = rw (is-base (c .before .before .before .before .before .before .before .args .offset) (c .before .before .before .before .before .before .if1 .left) (c .before .before .before .before .before .if2 .left) (c .before .before .before .before .wide-register-base .ensures) (c .before .before .base .given .1), c .match2 .keys1)
+returns-5 c =
+    let told = c .before .before in
+    let w = told .before .before in
+    let f = w .before in
+    let z = f .before in
+    rw (is-base (z .before .args .offset) (z .if1 .left) (f .if2 .left) (w .wide-register-base .ensures) (told .base .given .1), c .match2 .keys1)
 
 returns-6 : tie.Need-returns-6
-returns-6 c = rw (is-base (c .before .before .before .before .before .before .before .args .offset) (c .before .before .before .before .before .before .if1 .left) (c .before .before .before .before .before .if2 .left) (c .before .before .before .before .wide-register-base .ensures) (c .before .before .base .given .1), c .match2 .keys2)
+returns-6 c =
+    let told = c .before .before in
+    let w = told .before .before in
+    let f = w .before in
+    let z = f .before in
+    rw (is-base (z .before .args .offset) (z .if1 .left) (f .if2 .left) (w .wide-register-base .ensures) (told .base .given .1), c .match2 .keys2)
 
 returns-7 : tie.Need-returns-7
-returns-7 c = rw (is-base (c .before .before .before .before .before .before .before .args .offset) (c .before .before .before .before .before .before .if1 .left) (c .before .before .before .before .before .if2 .left) (c .before .before .before .before .wide-register-base .ensures) (c .before .before .base .given .1), c .match2 .keys3)
+returns-7 c =
+    let told = c .before .before in
+    let w = told .before .before in
+    let f = w .before in
+    let z = f .before in
+    rw (is-base (z .before .args .offset) (z .if1 .left) (f .if2 .left) (w .wide-register-base .ensures) (told .base .given .1), c .match2 .keys3)
 
 returns-8 : tie.Need-returns-8
-returns-8 c = rw (is-base (c .before .before .before .before .before .before .before .args .offset) (c .before .before .before .before .before .before .if1 .left) (c .before .before .before .before .before .if2 .left) (c .before .before .before .before .wide-register-base .ensures) (c .before .before .base .given .1), c .match2 .keys4)
+returns-8 c =
+    let told = c .before .before in
+    let w = told .before .before in
+    let f = w .before in
+    let z = f .before in
+    rw (is-base (z .before .args .offset) (z .if1 .left) (f .if2 .left) (w .wide-register-base .ensures) (told .base .given .1), c .match2 .keys4)
 
 returns-9 : tie.Need-returns-9
 returns-9 c =
     let told = c .before .before .before .before .before .before in
+    let w = told .before .before in
+    let f = w .before in
+    let z = f .before in
     let rest = c .before .before .before .before .match2 .rest in
     let b = told .base .given .0 .0 in
     rw (
-      is-base (c .before .before .before .before .before .before .before .before .before .before .before .args .offset) (c .before .before .before .before .before .before .before .before .before .before .if1 .left) (c .before .before .before .before .before .before .before .before .before .if2 .left) (c .before .before .before .before .before .before .before .before .wide-register-base .ensures) (told .base .given .1),
+      is-base (z .before .args .offset) (z .if1 .left) (f .if2 .left) (w .wide-register-base .ensures) (told .base .given .1),
       ne-eqb b 8 (rest .0 .0 .0 .1),
       ne-eqb b 128 (rest .0 .0 .1),
       ne-eqb b 136 (rest .0 .1),
@@ -82,18 +94,5 @@ pub register-at-spec : {M : Type 1} → statement M
 register-at-spec =
     tie.close
     (tie.spec
-    returns
-    returns-2
-    wide-register-base-requires
-    enum-known-base
-    enum-told
-    returns-3
-    baser-index-requires
-    enum-known-index
-    enum-told-2
-    returns-4
-    returns-5
-    returns-6
-    returns-7
-    returns-8
-    returns-9)
+    returns returns-2 (λ c κs. search needs) (λ c. search needs) (λ c. search needs) returns-3 (λ c κs. search needs) (λ c. search needs)
+    (λ c. search needs) returns-4 returns-5 returns-6 returns-7 returns-8 returns-9)

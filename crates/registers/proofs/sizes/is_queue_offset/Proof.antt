@@ -4,11 +4,8 @@ use borrow.Author.Needs.{needs}
 use Rattle.registers.proofs.sizes.is_queue_offset.Statement.{statement}
 use Rattle.registers.proofs.sizes.is_queue_offset.Tie as tie
 
-queue-size-requires : tie.Need-queue-size-requires
-queue-size-requires c κs = search needs
-
 returns : tie.Need-returns
 returns c = rw (c .queue-size .ensures)
 
 pub is-queue-offset-spec : {M : Type 1} → statement M
-is-queue-offset-spec = tie.close (tie.spec queue-size-requires returns)
+is-queue-offset-spec = tie.close (tie.spec (λ c κs. search needs) returns)

@@ -5,15 +5,9 @@ use Rattle.model.specs.Config.{soundConfig}
 use Rattle.registers.proofs.sizes.sound_config.Statement.{statement}
 use Rattle.registers.proofs.sizes.sound_config.Tie as tie
 
-cast-none-twice : tie.Need-cast-none-twice
-cast-none-twice c = search needs
-
-none-twice-requires : tie.Need-none-twice-requires
-none-twice-requires c κs = search needs
-
 returns : tie.Need-returns
 unfolding soundConfig
 returns c = rw (c .none-twice .ensures)
 
 pub sound-config-spec : {M : Type 1} → statement M
-sound-config-spec = tie.close (tie.spec cast-none-twice none-twice-requires returns)
+sound-config-spec = tie.close (tie.spec (λ c. search needs) (λ c κs. search needs) returns)

@@ -10,15 +10,6 @@ returns : tie.Need-returns
 unfolding soundRing
 returns c = simp (eq-eqb _ _ (c .before .before .if1 .taken))
 
-queue-base-requires : tie.Need-queue-base-requires
-queue-base-requires c κs = search needs
-
-is-queue-offset-requires : tie.Need-is-queue-offset-requires
-is-queue-offset-requires c κs = search needs
-
-is-queue-offset-requires-2 : tie.Need-is-queue-offset-requires-2
-is-queue-offset-requires-2 c κs = search needs
-
 returns-2 : tie.Need-returns-2
 unfolding soundRing
 returns-2 c =
@@ -27,4 +18,7 @@ returns-2 c =
     rw (ne-eqb (b .before .before .args .registers .cbaser) 0 (b .before .if1 .left), b .queue-base .ensures, r .is-queue-offset .ensures, c .is-queue-offset2 .ensures)
 
 pub sound-ring-spec : {M : Type 1} → statement M
-sound-ring-spec = tie.close (tie.spec returns queue-base-requires is-queue-offset-requires is-queue-offset-requires-2 returns-2)
+sound-ring-spec =
+    tie.close
+    (tie.spec
+    returns (λ c κs. search needs) (λ c κs. search needs) (λ c κs. search needs) returns-2)

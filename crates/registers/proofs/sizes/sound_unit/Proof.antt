@@ -4,14 +4,8 @@ use borrow.Author.Needs.{needs}
 use Rattle.registers.proofs.sizes.sound_unit.Statement.{statement}
 use Rattle.registers.proofs.sizes.sound_unit.Tie as tie
 
-sound-config-requires : tie.Need-sound-config-requires
-sound-config-requires c κs = search needs
-
-sound-ring-requires : tie.Need-sound-ring-requires
-sound-ring-requires c κs = search needs
-
 returns : tie.Need-returns
 returns c = rw (c .before .sound-config .ensures, c .sound-ring .ensures)
 
 pub sound-unit-spec : {M : Type 1} → statement M
-sound-unit-spec = tie.close (tie.spec sound-config-requires sound-ring-requires returns)
+sound-unit-spec = tie.close (tie.spec (λ c κs. search needs) (λ c κs. search needs) returns)
