@@ -13,6 +13,7 @@ use Rattle.model.specs.declared.ItsState.{ItsState}
 use Rattle.model.specs.declared.ItsAction.{ItsAction}
 use Rattle.model.specs.declared.Written.{Written}
 use Rattle.model.specs.Queue.{Window}
+use Rattle.model.specs.Refusal.{writeNumbers}
 use Rattle.model.specs.Entry.{write}
 use Rattle.model.specs.Trace.{lentRow}
 use Rattle.model.proofs.Cases.{cases}
@@ -44,21 +45,27 @@ module _ {A : Type 0} (l : List A) (len : length l ≡ 1024) where
       length-append xs (drop (lentOf room) l) ∙ ap (λ (k : ℕ). k + length (drop (lentOf room) l)) e
       ∙ sym (length-append (take (lentOf room) l) (drop (lentOf room) l)) ∙ ap length (take-append-drop (lentOf room) l) ∙ len
 
+-- an answer's numbers are those of the write
+lent-says : (w : Window) (room : ℕ) (u : ItsState) (offset width value : ℕ) (o : WrittenRow) →
+    o ≡ besideRow (write w (take room lentRow) u offset width value .written) (write w (take room lentRow) u offset width value .row ++ drop room lentRow) →
+    WritesLent w room u offset width value o
+lent-says w room u offset width value o e = record { answer = e; numbers = ap (λ r. writeNumbers (r .answer)) e }
+
 -- what the calls come to is what the contract says
 pub ends-as : (w : Window) (st : ItsState) (room offset width value : ℕ) (r xs : List ItsAction) (t : Written) (o : WrittenRow) → length r ≡ 1024 → r ≡ lentRow →
     Writes w (take (lentOf room) r) st offset width value t xs → o ≡ besideRow t (xs ++ drop (lentOf room) r) → WritesLent w room st offset width value o
 ends-as w st room offset width value r xs t o len e c last =
-    subst (λ (l : List ItsAction). o ≡ besideRow (write w (take room l) st offset width value .written) (write w (take room l) st offset width value .row ++ drop room l)) e
+    lent-says w room st offset width value o (subst (λ (l : List ItsAction). o ≡ besideRow (write w (take room l) st offset width value .written) (write w (take room l) st offset width value .row ++ drop room l)) e
     (let c′ = subst (λ (l : List ItsAction). Writes w l st offset width value t xs) (lent-first r len room) c in
-    last ∙ ap (λ (u : Written). besideRow u (xs ++ drop (lentOf room) r)) (c′ .0)
-    ∙ ap (λ (l : List ItsAction). besideRow (write w (take room r) st offset width value .written) (l ++ drop (lentOf room) r)) (c′ .1)
-    ∙ ap (λ (l : List ItsAction). besideRow (write w (take room r) st offset width value .written) (write w (take room r) st offset width value .row ++ l)) (lent-behind r len room))
+    last ∙ ap (λ (u : Written). besideRow u (xs ++ drop (lentOf room) r)) (c′ .answer)
+    ∙ ap (λ (l : List ItsAction). besideRow (write w (take room r) st offset width value .written) (l ++ drop (lentOf room) r)) (c′ .row-left)
+    ∙ ap (λ (l : List ItsAction). besideRow (write w (take room r) st offset width value .written) (write w (take room r) st offset width value .row ++ l)) (lent-behind r len room)))
 
 -- where the whole row is lent, the write is that with the whole row
 pub whole-row : (w : Window) (st : ItsState) (offset width value : ℕ) (o : WrittenRow) → WritesLent w 1024 st offset width value o →
     o ≡ besideRow (write w lentRow st offset width value .written) (write w lentRow st offset width value .row)
 whole-row w st offset width value o e =
-    e ∙ ap (λ (l : List ItsAction). besideRow (write w l st offset width value .written) (write w l st offset width value .row ++ drop 1024 lentRow)) (take-all 1024 lentRow (omega (arith, long)))
+    e .answer ∙ ap (λ (l : List ItsAction). besideRow (write w l st offset width value .written) (write w l st offset width value .row ++ drop 1024 lentRow)) (take-all 1024 lentRow (omega (arith, long)))
     ∙ ap (λ (l : List ItsAction). besideRow (write w lentRow st offset width value .written) (write w lentRow st offset width value .row ++ l)) (drop-of-length-le lentRow {i = 1024} (omega (arith, long)))
     ∙ ap (λ (l : List ItsAction). besideRow (write w lentRow st offset width value .written) l) (append-nil (write w lentRow st offset width value .row))
   where

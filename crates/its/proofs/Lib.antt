@@ -1,5 +1,3 @@
-pub mod Bare
-pub mod Delivers
 pub mod Writes
 pub mod Boxed
 pub mod LocalRow

@@ -1,141 +1,115 @@
--- A write of the model is what it is prepared to be and, where that lets the queue run, the run. A unit that is to run is sound, and its budget is
--- not above the row's length.
+-- A write up to its run, and then the run, is the model's write.
 -- Assumes nothing.
-use Prim.Native.Nat.{ℕ, _≤_}
-use mathlib.Core.Path.{_≡_, refl, sym, _∙_, ap}
-use mathlib.Core.Bool.{true, false}
-use mathlib.Core.List.{List}
-use mathlib.Core.Option.{Option, none, some}
+use Prim.Native.Nat.{ℕ, zero, suc, _≤_}
+use native.Mathlib.Omega.{arith}
+use mathlib.Core.Path.{_≡_, refl, sym, ap, subst, _∙_}
+use mathlib.Core.Bool.{Bool, true, false, _&&_}
+use mathlib.Core.List.{List, []}
+use lib.Dec.{leb, ltb}
 use lib.ListN.{length}
-use lib.Dec.{leb, eqb}
-use borrow.Author.Tests.{leb-true}
+use borrow.Author.Tests.{leb-true, leb-false, lt-ltb, le-ltb}
 use Rattle.model.specs.declared.ItsConfig.{ItsConfig}
-use Rattle.model.specs.declared.ItsRegisters.{ItsRegisters}
 use Rattle.model.specs.declared.ItsState.{ItsState}
 use Rattle.model.specs.declared.ItsAction.{ItsAction}
-use Rattle.model.specs.declared.Register.{Register}
-use Rattle.model.specs.declared.Register.the-variants.{Ctlr, Iidr, Typer, Cbaser, Cwriter, Creadr, Baser, Reserved}
-use Rattle.model.specs.declared.Verdict.{Verdict}
-use Rattle.model.specs.declared.Verdict.the-variants.{Accepted, Refused}
-use Rattle.model.specs.declared.WriteAnswer.{WriteAnswer}
-use Rattle.model.specs.declared.WriteAnswer.the-variants.{Taken, NotTaken}
-use Rattle.model.specs.Choose.{if_then_else_, ifFound}
-use Rattle.model.specs.Config.{queueBase, soundConfig, soundRing, soundUnit}
-use Rattle.model.specs.Queue.{Window, Stop, Ran, runQueue}
-use Rattle.model.specs.Register.{registerAt, valueWritten, writerTaken, writerAccepted}
-use Rattle.model.specs.Entry.{checkWrite, ifAccepted, Outcome, refuse, rowAfter, afterRun, running, writeTo, write}
-use Rattle.queue.specs.declared.Processed.{Processed}
-use Rattle.queue.specs.Turns.{stoppedOf, processed}
+use Rattle.model.specs.declared.RegisterWrite.{RegisterWrite}
+use Rattle.model.specs.declared.Refusal.the-variants.{BudgetExceeded}
+use Rattle.model.specs.declared.Written.{Written}
+use Rattle.model.specs.Refusal.{writeNumbers}
+use Rattle.model.specs.With.{withRegisters}
+use Rattle.model.specs.Config.{soundConfig, soundUnit}
+use Rattle.model.specs.Queue.{Window, waiting, run}
+use Rattle.model.specs.Entry.{afterRun, running, stores, write}
+use Rattle.model.proofs.Cases.{cases, never, and-left, and-right}
+use Rattle.model.proofs.RunLaws.{sound-stands}
+use Rattle.model.proofs.Answers.{queue-runs, queue-over, queue-off}
+use Rattle.model.proofs.Ways.{runs-ready}
+use Rattle.answers.specs.declared.Counts.{Counts}
+use Rattle.answers.specs.Counting.{begun, halted}
+use Rattle.queue.specs.declared.Progress.{Progress}
+use Rattle.queue.specs.Ongoing.{Begun, progressOf, startOf, endOf}
+use Rattle.queue.proofs.Ongoing.{counts-off, counts-over, counts-on}
 use Rattle.its.specs.Contracts.{Writes}
-use Rattle.model.proofs.Cases.{cases, never, and-left, and-right, both}
-use Rattle.model.proofs.Waiting.{writer-sound}
-use Rattle.its.specs.declared.Prepared.{Prepared}
-use Rattle.registers.specs.Writing.{bare, refusing, toCtlr, toCbaser, toCwriter, toBaser, writing, accepting}
-use Rattle.its.specs.Prepared.{checkedFor, accessing, preparedBy, prepared, asPrepared, answerWith, answerAfter, afterwards}
-use Rattle.its.proofs.Bare.{written-bare}
+use Rattle.its.specs.Prepared.{prepared}
 
--- what a write comes to once it is prepared
-abbrev pub outcome : Window → List ItsAction → Prepared → Outcome
-outcome w row p = if p .runs then afterRun (runQueue w (p .unit)) row else record { written = record { unit = p .unit; answer = p .answer }; row = row }
+-- The budget of a sound configuration is 1,024 at most.
+budget-most : (k : ItsConfig) → soundConfig k ≡ true → k .«command_budget» ≤ 1024
+unfolding soundConfig
+budget-most k s =
+    let rest = and-right (leb 8192 (k .«lpi_limit») && leb (k .«lpi_limit») 16777215) _ s in
+    leb-true _ _ (and-right (leb 1 (k .«command_budget»)) _ (and-left (leb 1 (k .«command_budget») && leb (k .«command_budget») 1024) _ rest))
 
-module _ (w : Window) (row : List ItsAction) (u : ItsState) where
-  to-register : (value : ℕ) (n : Register) → writeTo w row u value n ≡ outcome w row (preparedBy u (writing (u .registers) value n))
-  unfolding toCtlr toCbaser toCwriter toBaser running
-  to-register value Ctlr = refl
-  to-register value Iidr = refl
-  to-register value Typer = refl
-  to-register value Cbaser =
-      cases (u .registers .enabled) (λ on. rw on)
-      (λ off. rw off (cases (eqb (queueBase value) 0) (λ z. rw z) (λ z. rw z)))
-  to-register value Cwriter =
-      cases (writerAccepted (u .registers) (writerTaken (u .registers) value)) (λ t. rw t) (λ t. rw t)
-  to-register value Creadr = refl
-  to-register value (Baser n) = cases (u .registers .enabled) (λ on. rw on) (λ off. rw off)
-  to-register value Reserved = refl
+-- A run that begins in a sound unit.
+module _ (w : Window) (row : List ItsAction) (u : ItsState) (sound : soundUnit u ≡ true) (budget : u .config .«command_budget» ≤ length row) where
+  abbrev from : Counts → Progress
+  from n = progressOf u n [] 0
 
-  by-verdict : (v : Verdict) (value : ℕ) (n : Register) →
-      ifAccepted v (writeTo w row u value n) (refuse u row 0)
-      ≡ outcome w row (preparedBy u (ifAccepted v (writing (u .registers) value n) (refusing (u .registers) 0)))
-  by-verdict Accepted value n = to-register value n
-  by-verdict (Refused r) value n = refl
+  -- with n commands
+  begun-on : (n : ℕ) → n ≤ u .config .«command_budget» → Begun (from (begun n)) (length row)
+  begun-on n h =
+      let most = budget-most (u .config) (and-left (soundConfig (u .config)) _ sound) in
+      record { starts = λ _. refl; few = λ _. omega arith; room-left = λ _. omega arith; stands = λ _. sound-stands u sound }
 
-  -- the row's length is all that is known of the row before the run
-  pub as-prepared : (room offset width value : ℕ) → length row ≡ room → write w row u offset width value ≡ outcome w row (prepared u room offset width value)
-  unfolding write prepared accessing accepting checkedFor
-  as-prepared room offset width value long =
-      rw (← long, written-bare u offset width value (registerAt offset))
-      (by-verdict (checkWrite u row offset width) (valueWritten u offset width value (registerAt offset)) (registerAt offset))
+  end-begun : (n : ℕ) → endOf w (from (begun n)) row ≡ afterRun (run w n u) row
+  end-begun zero = refl
+  end-begun (suc n) = rw (lt-ltb 0 (suc n) (omega arith)) refl
 
--- The unit that is to run.
+  -- with none
+  begun-none : (n : Counts) → n .left ≡ 0 → Begun (from n) (length row)
+  begun-none n z =
+      let still : ltb 0 (n .left) ≡ false = le-ltb 0 (n .left) (omega arith) in
+      record {
+        starts = λ h. never (ltb 0 (n .left)) h still;
+        few = λ h. never (ltb 0 (n .left)) h still;
+        room-left = λ h. never (ltb 0 (n .left)) h still;
+        stands = λ h. never (ltb 0 (n .left)) h still;
+      }
 
-writing-sound : (r : ItsRegisters) → soundRing r ≡ true → (value : ℕ) (n : Register) → writing r value n .runs ≡ true → soundRing (writing r value n .registers) ≡ true
-unfolding toCtlr toCbaser toCwriter toBaser soundRing
-writing-sound r ok value Ctlr h = ok
-writing-sound r ok value Iidr h = ok
-writing-sound r ok value Typer h = ok
-writing-sound r ok value Cbaser h =
-    cases (r .enabled) (λ on. never true refl (sym (rw on at h)))
-    (λ off. cases (eqb (queueBase value) 0) (λ z. never true refl (sym (rw (off, z) at h))) (λ z. never true refl (sym (rw (off, z) at h))))
-writing-sound r ok value Cwriter h =
-    let writer = writerTaken r value in
-    cases (writerAccepted r writer) (λ t. rw t (writer-sound r ok writer t)) (λ t. never true refl (sym (rw t at h)))
-writing-sound r ok value Creadr h = ok
-writing-sound r ok value (Baser n) h = cases (r .enabled) (λ on. never true refl (sym (rw on at h))) (λ off. never true refl (sym (rw off at h)))
-writing-sound r ok value Reserved h = ok
+  abbrev fits : Bool
+  fits = leb (waiting (u .registers)) (u .config .«command_budget»)
 
--- what the first two checks tell
-record Entered (k : ItsConfig) (r : ItsRegisters) (room : ℕ) : Type 0 where
-  sound : soundUnit (bare k r) ≡ true
-  fits : leb (k .«command_budget») room ≡ true
+  starts-so : Begun (startOf u) (length row)
+  unfolding startOf
+  starts-so =
+      cases (u .registers .enabled)
+      (λ on. cases fits
+      (λ l. subst (λ n. Begun (from n) (length row)) (counts-on u on refl (leb-true _ _ l)) (begun-on (waiting (u .registers)) (leb-true _ _ l)))
+      (λ l. subst (λ n. Begun (from n) (length row)) (counts-over u on refl (leb-false _ _ l)) (begun-none (halted BudgetExceeded) refl)))
+      (λ off. subst (λ n. Begun (from n) (length row)) (counts-off u off) (begun-none (begun 0) refl))
 
-entered : (k : ItsConfig) (r : ItsRegisters) (room offset width : ℕ) → checkedFor k r room offset width ≡ Accepted → Entered k r room
-unfolding checkedFor
-entered k r room offset width h =
-    cases (soundUnit (bare k r))
-    (λ s. cases (leb (k .«command_budget») room)
-    (λ b. record { sound = s; fits = b })
-    (λ b. never true refl (let z = rw (s, b) at h in (cc))))
-    (λ s. never true refl (let z = rw s at h in (cc)))
+  starts-to : endOf w (startOf u) row ≡ running w u row
+  unfolding startOf running
+  starts-to =
+      cases (u .registers .enabled)
+      (λ on. cases fits
+      (λ l. ap (λ n. endOf w (from n) row) (sym (counts-on u on refl (leb-true _ _ l))) ∙ (end-begun (waiting (u .registers)) ∙ ap (λ q. afterRun q row) (sym (queue-runs w u on l))))
+      (λ l. ap (λ n. endOf w (from n) row) (sym (counts-over u on refl (leb-false _ _ l))) ∙ ap (λ q. afterRun q row) (sym (queue-over w u on l))))
+      (λ off. ap (λ n. endOf w (from n) row) (sym (counts-off u off)) ∙ ap (λ q. afterRun q row) (sym (queue-off w u off)))
 
-pub record ReadyToRun (p : Prepared) (room : ℕ) : Type 0 where
-  pub sound : soundUnit (p .unit) ≡ true
-  pub budget : p .unit .config .«command_budget» ≤ room
-
-module _ (u : ItsState) (room offset width value : ℕ) where
-  by-check : (v : Verdict) → checkedFor (u .config) (u .registers) room offset width ≡ v →
-      (n : ℕ) (r : Register) → ifAccepted v (writing (u .registers) n r) (refusing (u .registers) 0) .runs ≡ true →
-      ReadyToRun (preparedBy u (ifAccepted v (writing (u .registers) n r) (refusing (u .registers) 0))) room
-  by-check Accepted e n r h =
-      let k = entered (u .config) (u .registers) room offset width e in
-      let ring = writing-sound (u .registers) (and-right (soundConfig (u .config)) _ (k .sound)) n r h in
-      record { sound = both (soundConfig (u .config)) _ (and-left (soundConfig (u .config)) _ (k .sound)) ring; budget = leb-true _ _ (k .fits) }
-  by-check (Refused why) e n r h = never true refl (sym h)
-
-  pub ready-to-run : prepared u room offset width value .runs ≡ true → ReadyToRun (prepared u room offset width value) room
-  unfolding prepared accessing accepting
-  ready-to-run h = by-check (checkedFor (u .config) (u .registers) room offset width) refl _ (registerAt offset) h
-
--- The two ways of a write, as its contract states them: the answer and what is left in the row, where the queue does not run and where it does.
-
-by-stop : (o : Option Stop) (q : Processed) →
-    answerWith (stoppedOf o) q ≡ ifFound o (λ s. NotTaken (s .refusal) (s .opcode) (q .unit .registers .creadr) (q .done)) (Taken (q .done) (q .actions))
-by-stop none q = refl
-by-stop (some s) q = refl
-
-ran : (r : Ran) (row : List ItsAction) → afterwards (processed r) ≡ afterRun r row .written
-unfolding answerAfter
-ran r row = ap (λ (a : WriteAnswer). record { unit = r .unit; answer = a }) (by-stop (r .stopped) (processed r))
-
+-- A write.
 module _ (w : Window) (row : List ItsAction) (u : ItsState) (offset width value : ℕ) where
-  abbrev ready : Prepared
-  ready = prepared u (length row) offset width value
+  abbrev s : RegisterWrite
+  s = stores row u offset width value
 
-  pub as-left : ready .runs ≡ false → Writes w row u offset width value (asPrepared ready) row
-  as-left off =
-      let e = rw off at (as-prepared w row u (length row) offset width value refl) in
-      (sym (ap (λ (o : Outcome). o .written) e), sym (ap (λ (o : Outcome). o .row) e))
+  ready : s .runs ≡ true → (soundUnit (withRegisters u (s .registers)) ≡ true) × (u .config .«command_budget» ≤ length row)
+  ready = runs-ready u (length row) offset width value
 
-  pub as-ran : ready .runs ≡ true → Writes w row u offset width value (afterwards (processed (runQueue w (ready .unit)))) (rowAfter (runQueue w (ready .unit) .actions) row)
-  as-ran on =
-      let e = rw on at (as-prepared w row u (length row) offset width value refl) in
-      (ran (runQueue w (ready .unit)) row ∙ sym (ap (λ (o : Outcome). o .written) e), sym (ap (λ (o : Outcome). o .row) e))
+  pub begins : Begun (prepared u (length row) offset width value) (length row)
+  unfolding prepared
+  begins =
+      cases (s .runs)
+      (λ on. rw on (starts-so w row (withRegisters u (s .registers)) (ready on .0) (ready on .1)))
+      (λ off. rw off (record { starts = λ h. never true refl (sym h); few = λ h. never true refl (sym h); room-left = λ h. never true refl (sym h); stands = λ h. never true refl (sym h) }))
+
+  pub ends : endOf w (prepared u (length row) offset width value) row ≡ write w row u offset width value
+  unfolding prepared write
+  ends =
+      cases (s .runs)
+      (λ on. rw on (starts-to w row (withRegisters u (s .registers)) (ready on .0) (ready on .1)))
+      (λ off. rw off refl)
+
+  -- what comes back is what the contract says
+  pub writes : {t : Progress} → t ≡ prepared u (length row) offset width value → {r : Written} {left : List ItsAction} →
+      (r ≡ endOf w t row .written) × (left ≡ endOf w t row .row) → Writes w row u offset width value r left
+  writes e h =
+      let a = h .0 ∙ (ap (λ t. endOf w t row .written) e ∙ ap (λ o. o .written) ends) in
+      record { answer = a; row-left = h .1 ∙ (ap (λ t. endOf w t row .row) e ∙ ap (λ o. o .row) ends); numbers = ap (λ r. writeNumbers (r .answer)) a }

@@ -1,8 +1,6 @@
-// The unit as a host calls it, up to the run of its queue: configuration, reads, translation, and what a write stores. Every contract is an
-// equation with a definition of the model, and none asks anything of the caller. What a write stores before its run is said in
-// specs/Prepared.antt; proofs/Writes.antt shows that the model's write is that and then the run.
+// The unit as a host calls it, by value: configuration, reads, writes, translation. Every contract is an equation with a definition of the model, and
+// none asks anything of the caller.
 use model::Configured;
-use model::Delivery;
 use model::EventId;
 use model::GicVcpuId;
 use model::ItsAction;
@@ -17,26 +15,14 @@ use model::TranslateAnswer;
 use model::Verdict;
 use model::WriteAnswer;
 use model::Written;
-use queue::GuestWindow;
-use queue::Processed;
-use queue::Stopped;
-use registers::RegisterWrite;
+use queue::Progress;
+use window::GuestWindow;
 ghost use mathlib.Core.Path.{_≡_};
 ghost use Rattle.model.specs.Config.{freshUnit, noConfig, freshRegisters};
-ghost use Rattle.model.specs.Entry.{checkRead, read};
 ghost use Rattle.model.specs.Trace.{lentRow};
-ghost use Rattle.queue.specs.Reading.{lent};
+ghost use Rattle.decoding.specs.Reading.{lent};
 ghost use Rattle.its.specs.Contracts.{NoUnit, Configures, Reads, Writes, WritesLent, besideRow, lentOf, Translates};
-ghost use Rattle.registers.specs.Writing.{bare};
-ghost use Rattle.its.specs.Prepared.{checkedFor, accessing, prepared, asPrepared, answerAfter, afterwards};
-
-// What a write comes to before any command runs: whether the queue is to run, the answer so far, and the unit. Where the queue is to run, the answer
-// is the run's. (What `write_its` looks at stands before the unit: its proof works out where that field lies.)
-pub struct Prepared {
-    pub runs: bool,
-    pub answer: WriteAnswer,
-    pub unit: ItsState,
-}
+ghost use Rattle.its.specs.Prepared.{prepared};
 
 // What a write answers, with the row as it is left.
 pub struct WrittenRow {
@@ -126,35 +112,12 @@ pub fn configure(config: ItsConfig) -> Configured
     }
 }
 
-fn check_read(config: ItsConfig, registers: ItsRegisters, offset: u64, width: u8) -> Verdict
-    ensures { λ r. ⌜ r ≡ checkRead (bare config registers) offset width ⌝ }
-{
-    if !registers::sizes::sound_unit(config, registers) {
-        return Verdict::Refused(Refusal::Unsound);
-    }
-    registers::access::validate_its_access(config, offset, width)
-}
-
-// A read, of a configuration and registers: nothing that it checks or reads depends on the tables.
-pub fn read_from(config: ItsConfig, registers: ItsRegisters, offset: u64, width: u8) -> ReadAnswer
-    ensures { λ r. ⌜ r ≡ read (bare config registers) offset width ⌝ }
-{
-    let verdict = check_read(config, registers, offset, width);
-    match verdict {
-        Verdict::Accepted => {
-            let value = registers::read_register(config, registers, offset, width);
-            ReadAnswer::Value(value)
-        }
-        Verdict::Refused(why) => ReadAnswer::NoValue(why),
-    }
-}
-
 pub fn read_its(unit: ItsState, offset: u64, width: u8) -> ReadAnswer
     ensures { λ r. ⌜ Reads unit offset width r ⌝ }
 {
     let config = unit.config;
     let registers = unit.registers;
-    read_from(config, registers, offset, width)
+    registers::read_from(config, registers, offset, width)
 }
 
 // A disabled unit translates too.
@@ -166,124 +129,24 @@ pub fn translate(unit: ItsState, device: ItsDeviceId, event: EventId) -> Transla
     if !registers::sizes::sound_unit(config, registers) {
         return TranslateAnswer::NotDelivered(Refusal::Unsound);
     }
-    let translations = unit.translations;
-    let place = tables::place_of_pair(translations, device, event);
-    if !place.found {
-        return TranslateAnswer::NotDelivered(Refusal::ResourceNotFound);
-    }
-    let entry = tables::translation_at(translations, place.at);
-    let collections = unit.collections;
-    let home = tables::place_of_collection(collections, entry.collection);
-    if !home.found {
-        return TranslateAnswer::NotDelivered(Refusal::ResourceNotFound);
-    }
-    let collection = tables::collection_at(collections, home.at);
-    let lpi = entry.lpi;
-    let target = collection.target;
-    TranslateAnswer::Delivered(Delivery {
-        lpi: lpi,
-        target: target,
-    })
-}
-
-// The order of a write's refusals at the entry; `room` is the length of the row that the host lends.
-fn check_write(
-    config: ItsConfig,
-    registers: ItsRegisters,
-    room: usize,
-    offset: u64,
-    width: u8,
-) -> Verdict
-    ensures { λ r. ⌜ r ≡ checkedFor config registers room offset width ⌝ }
-{
-    if !registers::sizes::sound_unit(config, registers) {
-        return Verdict::Refused(Refusal::Unsound);
-    }
-    let budget = config.command_budget as usize;
-    if room < budget {
-        return Verdict::Refused(Refusal::RowTooShort);
-    }
-    registers::access::validate_its_access(config, offset, width)
-}
-
-pub fn write_access(
-    config: ItsConfig,
-    registers: ItsRegisters,
-    room: usize,
-    offset: u64,
-    width: u8,
-    value: u64,
-) -> RegisterWrite
-    ensures { λ r. ⌜ r ≡ accessing config registers room offset width value ⌝ }
-{
-    let verdict = check_write(config, registers, room, offset, width);
-    match verdict {
-        Verdict::Accepted => registers::write_accepted(config, registers, offset, width, value),
-        Verdict::Refused(why) => registers::refused(registers, 0, why),
-    }
+    command::pairs::deliver(unit, device, event)
 }
 
 // Everything of a write up to its run.
-pub fn prepare(unit: ItsState, room: usize, offset: u64, width: u8, value: u64) -> Prepared
+pub fn prepare(unit: ItsState, room: usize, offset: u64, width: u8, value: u64) -> Progress
     ensures { λ r. ⌜ r ≡ prepared unit room offset width value ⌝ }
 {
     let config = unit.config;
     let registers = unit.registers;
-    let write = write_access(config, registers, room, offset, width, value);
-    let answer = write.answer;
-    let runs = write.runs;
+    let write = registers::write_access(config, registers, room, offset, width, value);
     let left = write.registers;
     let mut next = unit;
     next.registers = left;
-    Prepared {
-        runs: runs,
-        answer: answer,
-        unit: next,
+    if write.runs {
+        return queue::start(next);
     }
-}
-
-// A write without a run is what it was prepared to be.
-fn answered(p: Prepared) -> Written
-    ensures { λ r. ⌜ r ≡ asPrepared p ⌝ }
-{
-    let unit = p.unit;
-    let answer = p.answer;
-    Written {
-        unit: unit,
-        answer: answer,
-    }
-}
-
-// What a write answers after its run.
-fn answer_of(q: Processed) -> WriteAnswer
-    ensures { λ r. ⌜ r ≡ answerAfter q ⌝ }
-{
-    let stopped = q.stopped;
-    let unit = q.unit;
-    let registers = unit.registers;
-    match stopped {
-        Stopped::Ended => WriteAnswer::Taken {
-            done: q.done,
-            actions: q.actions,
-        },
-        Stopped::Refused(why, opcode) => WriteAnswer::NotTaken {
-            refusal: why,
-            opcode: opcode,
-            offset: registers.creadr,
-            done: q.done,
-        },
-    }
-}
-
-fn concluded(q: Processed) -> Written
-    ensures { λ r. ⌜ r ≡ afterwards q ⌝ }
-{
-    let answer = answer_of(q);
-    let unit = q.unit;
-    Written {
-        unit: unit,
-        answer: answer,
-    }
+    let answer = write.answer;
+    queue::settled(next, answer)
 }
 
 // A write, with any window and any row.
@@ -297,13 +160,8 @@ pub fn write_its<'w, 'r>(
 ) -> Written
     ensures { λ r. ⌜ Writes (lent (window .entry .address) (now (window .entry .bytes))) (now (row .entry)) unit offset width value r (now (row .exit)) ⌝ }
 {
-    let p = prepare(unit, row.len(), offset, width, value);
-    if p.runs {
-        let q = queue::process_commands(p.unit, window, row);
-        concluded(q)
-    } else {
-        answered(p)
-    }
+    let begun = prepare(unit, row.len(), offset, width, value);
+    queue::process_commands(begun, window, row)
 }
 
 // A row of 1,024 records, which is enough for any budget.

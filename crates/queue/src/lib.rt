@@ -1,93 +1,43 @@
-// The command queue: the guest window, the action row, and the bounded run over both. All behaviour is in `start`, `advance` and `finish`, which
-// go by value; `process_commands` only loops over them and has `store_action` store the actions.
+// The command queue, by value: the guest window, the action row, and the bounded run over both. Behaviour is in `start` and `turn`, which go by
+// value; `process_commands` holds window and row, reads each command through the window, hands its words to `turn`, and has `store_action`
+// store the action.
+use answers::Counts;
+use answers::Stopped;
+use decoding::CommandRead;
+use model::Command;
 use model::Decoded;
+use model::Executed;
 use model::GicVcpuId;
 use model::ItsAction;
 use model::ItsRegisters;
 use model::ItsState;
 use model::LpiId;
 use model::Refusal;
-use model::Seen;
+use model::WriteAnswer;
+use model::Written;
+use window::GuestWindow;
 ghost use mathlib.Core.Path.{_≡_};
-ghost use mathlib.Core.Bool.{true};
-ghost use Prim.Native.Nat.{_≤_, _<_};
-ghost use lib.ListN.{length, set};
-ghost use Rattle.model.specs.Config.{soundUnit};
-ghost use Rattle.model.specs.Queue.{waiting as waitingOf, runQueue};
-ghost use Rattle.model.specs.Entry.{rowAfter};
-ghost use Rattle.queue.specs.Reading.{lent, noCommand, commandRead};
-ghost use Rattle.queue.specs.Turns.{Ready, begunAt, startOf, refusedAt, between, advanceOf, finishOf, processed};
+ghost use mathlib.Core.List.{[], _∷_};
+ghost use Prim.Native.Nat.{_<_};
+ghost use lib.ListN.{length};
+ghost use Rattle.model.specs.With.{withRegisters};
+ghost use Rattle.model.specs.Step.{check};
+ghost use Rattle.model.specs.Queue.{Stands, waiting as waitingOf, stays, judged, pastCommand};
+ghost use Rattle.decoding.specs.Reading.{lent};
+ghost use Rattle.queue.specs.Ongoing.{Ready, Begun, noAction, progressOf, firstCounts, startOf, settledOf, turnedOn, turnOf, finishOf, endOf};
 
-// The guest window: a lent run of bytes with the guest address of its first byte.
-pub struct GuestWindow<'a> {
-    pub address: u64,
-    pub bytes: &'a [u8],
-}
-
-// The words of a command, where it was read.
-pub struct CommandRead {
-    pub words: [u64; 4],
-    pub read: bool,
-}
-
-// Why a run ended: nothing was left to carry out; or a refusal, with the opcode of the command that it refuses, which is 0 where none was read.
-pub enum Stopped {
-    Ended,
-    Refused(Refusal, u8),
-}
-
-// The run between two commands: whether to go on, the action of the last command and its place in the row, how many commands are left, how many
-// were carried out and how many actions they made, why the run ended, and the unit. (What `process_commands` reads stands before the unit: its
+// A write between two commands of its run: whether to go on, the action of the last command and its place in the row, the guest address of the command
+// on which CREADR stands, the counts, the answer if nothing more is done, and the unit. (What `process_commands` reads stands first: its
 // proof works out where each of those fields lies.)
 pub struct Progress {
     pub more: bool,
     pub acted: bool,
     pub at: usize,
     pub action: ItsAction,
-    pub left: u64,
-    pub done: usize,
-    pub actions: usize,
-    pub stopped: Stopped,
+    pub wanted: u64,
+    pub counts: Counts,
+    pub answer: WriteAnswer,
     pub unit: ItsState,
-}
-
-// What a run comes to.
-pub struct Processed {
-    pub unit: ItsState,
-    pub done: usize,
-    pub actions: usize,
-    pub stopped: Stopped,
-}
-
-fn no_command() -> CommandRead
-    ensures { λ r. ⌜ r ≡ noCommand ⌝ }
-{
-    CommandRead {
-        words: [0u64; 4],
-        read: false,
-    }
-}
-
-// A command can be read exactly if all its 32 bytes lie in the window. No sum is made that could wrap.
-pub fn command_at(address: u64, bytes: &[u8], wanted: u64) -> CommandRead
-    ensures { λ r. ⌜ r ≡ commandRead (lent address (now (bytes .entry))) wanted ⌝ }
-{
-    if wanted < address {
-        return no_command();
-    }
-    let offset = (wanted - address) as usize;
-    let n = bytes.len();
-    if n < 32 {
-        return no_command();
-    }
-    if n - 32 < offset {
-        return no_command();
-    }
-    let words = words::decode_words(bytes, offset);
-    CommandRead {
-        words: words,
-        read: true,
-    }
 }
 
 // How many commands wait.
@@ -98,254 +48,213 @@ fn waiting(registers: ItsRegisters) -> u64
     words::queue_distance(registers.creadr, registers.cwriter, size) / 32
 }
 
-fn begun(unit: ItsState, left: u64, stopped: Stopped) -> Progress
-    ensures { λ r. ⌜ r ≡ begunAt unit left stopped ⌝ }
+fn no_action() -> ItsAction
+    ensures { λ r. ⌜ r ≡ noAction ⌝ }
 {
-    let u = unit;
-    let s = stopped;
-    let a = ItsAction {
+    ItsAction {
         target: GicVcpuId(0),
         lpi: LpiId(0),
         pending: false,
-    };
+    }
+}
+
+// The unit and the counts after a turn that made no action.
+fn quiet(unit: ItsState, counts: Counts, at: usize) -> Progress
+    requires { ⌜ Stands unit ⌝ }
+    ensures { λ r. ⌜ r ≡ progressOf unit counts [] at ⌝ }
+{
+    let registers = unit.registers;
+    let base = words::queue_base(registers.cbaser);
+    let wanted = base + registers.creadr;
+    let answer = answers::answer_of(counts, registers.creadr);
+    let action = no_action();
+    let n = counts;
+    let u = unit;
     Progress {
-        more: 0 < left,
+        more: 0 < n.left,
         acted: false,
-        at: 0,
-        action: a,
-        left: left,
-        done: 0,
-        actions: 0,
-        stopped: s,
+        at: at,
+        action: action,
+        wanted: wanted,
+        counts: n,
+        answer: answer,
         unit: u,
     }
 }
 
-// An enabled unit runs its queue: 5 is tested once.
-pub fn start(unit: ItsState) -> Progress
-    ensures { λ r. ⌜ r ≡ startOf unit ⌝ }
+// The same with an action.
+fn acting(unit: ItsState, counts: Counts, action: ItsAction, at: usize) -> Progress
+    requires { ⌜ Stands unit ⌝ }
+    ensures { λ r. ⌜ r ≡ progressOf unit counts (action ∷ []) at ⌝ }
+{
+    let mut t = quiet(unit, counts, at);
+    let a = action;
+    t.acted = true;
+    t.action = a;
+    t
+}
+
+fn first_counts(unit: ItsState) -> Counts
+    ensures { λ r. ⌜ r ≡ firstCounts unit ⌝ }
 {
     let registers = unit.registers;
     if !registers.enabled {
-        return begun(unit, 0, Stopped::Ended);
+        return Counts {
+            left: 0,
+            done: 0,
+            actions: 0,
+            stopped: Stopped::Ended,
+        };
     }
     let count = waiting(registers);
     let config = unit.config;
     let budget = config.command_budget as u64;
     if budget < count {
-        return begun(unit, 0, Stopped::Refused(Refusal::BudgetExceeded, 0));
+        return Counts {
+            left: 0,
+            done: 0,
+            actions: 0,
+            stopped: Stopped::Halted(Refusal::BudgetExceeded, 0),
+        };
     }
-    begun(unit, count, Stopped::Ended)
+    Counts {
+        left: count,
+        done: 0,
+        actions: 0,
+        stopped: Stopped::Ended,
+    }
+}
+
+// An enabled unit runs its queue: 5 is tested once.
+pub fn start(unit: ItsState) -> Progress
+    requires { ⌜ Stands unit ⌝ }
+    ensures { λ r. ⌜ r ≡ startOf unit ⌝ }
+{
+    let counts = first_counts(unit);
+    quiet(unit, counts, 0)
 }
 
 // The command on which CREADR stands is refused: CREADR stays, and nothing is left to do.
-fn refused(t: Progress, unit: ItsState, done: usize, refusal: Refusal, opcode: u8) -> Progress
-    ensures { λ r. ⌜ r ≡ refusedAt (between t unit (t .left) done) refusal opcode ⌝ }
+fn halt(t: Progress, why: Refusal, opcode: u8) -> Progress
+    requires { ⌜ Ready t ⌝ }
+    ensures { λ r. ⌜ r ≡ turnedOn t (stays why opcode) ⌝ }
 {
-    let kept = unit;
-    let a = t.action;
+    let unit = t.unit;
+    let counts = t.counts;
+    let turned = answers::stays(why, opcode);
+    let next = answers::counted(counts, turned);
+    quiet(unit, next, counts.actions)
+}
+
+// CREADR passes a command.
+fn pass_command(unit: ItsState) -> ItsState
+    requires { ⌜ Stands unit ⌝ }
+    ensures { λ r. ⌜ r ≡ withRegisters unit (pastCommand (unit .registers)) ⌝ }
+{
+    let mut registers = unit.registers;
+    let size = words::queue_size(registers.cbaser);
+    let next = registers.creadr + 32;
+    registers.creadr = next % size;
+    let mut left = unit;
+    left.registers = registers;
+    left
+}
+
+// A command that was read, carried out.
+fn carry_out(t: Progress, x: Command, opcode: u8) -> Progress
+    requires { ⌜ Ready t ⌝ }
+    ensures { λ r. ⌜ r ≡ turnedOn t (judged (check (t .unit) x) x opcode) ⌝ }
+{
+    let unit = t.unit;
+    let counts = t.counts;
+    let applied = command::execute(unit, x);
+    let changed = applied.unit;
+    let e = applied.executed;
+    match e {
+        Executed::NotDone(why) => halt(t, why, opcode),
+        Executed::Done => {
+            let left = pass_command(changed);
+            let turned = answers::passes(false);
+            let next = answers::counted(counts, turned);
+            quiet(left, next, counts.actions)
+        }
+        Executed::Acted(a) => {
+            let left = pass_command(changed);
+            let turned = answers::passes(true);
+            let next = answers::counted(counts, turned);
+            acting(left, next, a, counts.actions)
+        }
+    }
+}
+
+// One command.
+pub fn turn(t: Progress, c: CommandRead) -> Progress
+    requires { ⌜ Ready t ⌝ }
+    ensures { λ r. ⌜ r ≡ turnOf t c ⌝ }
+{
+    if !c.read {
+        return halt(t, Refusal::NotInWindow, 0);
+    }
+    let words = c.words;
+    let opcode = words::opcode(words);
+    let Decoded::Known(x) = decoding::decode(words) else {
+        return halt(t, Refusal::OpcodeUnknown, opcode);
+    };
+    carry_out(t, x, opcode)
+}
+
+// A write whose queue is not to run: the unit that it leaves, and its answer.
+pub fn settled(unit: ItsState, answer: WriteAnswer) -> Progress
+    ensures { λ r. ⌜ r ≡ settledOf unit answer ⌝ }
+{
+    let u = unit;
+    let a = answer;
+    let action = no_action();
+    let none = Counts {
+        left: 0,
+        done: 0,
+        actions: 0,
+        stopped: Stopped::Ended,
+    };
     Progress {
         more: false,
         acted: false,
-        at: t.at,
-        action: a,
-        left: 0,
-        done: done,
-        actions: t.actions,
-        stopped: Stopped::Refused(refusal, opcode),
-        unit: kept,
+        at: 0,
+        action: action,
+        wanted: 0,
+        counts: none,
+        answer: a,
+        unit: u,
     }
 }
 
-// Commands one after the other, up to one that makes an action, or is refused, or is the last. The unit stays where it is, in `u`, and what a
-// command changes is stored there: a call that took the unit and gave it back would copy all of it.
-pub fn advance(t: Progress, address: u64, bytes: &[u8]) -> Progress
-    requires { ⌜ Ready t ⌝ }
-    ensures { λ r. ⌜ r ≡ advanceOf (lent address (now (bytes .entry))) t ⌝ }
-{
-    let mut u = t.unit;
-    let mut left = t.left;
-    let mut done = t.done;
-    loop {
-        let mut registers = u.registers;
-        let cbaser = registers.cbaser;
-        let creadr = registers.creadr;
-        let base = words::queue_base(cbaser);
-        let wanted = base + creadr;
-        let c = command_at(address, bytes, wanted);
-        if !c.read {
-            return refused(t, u, done, Refusal::NotInWindow, 0);
-        }
-        let words = c.words;
-        let opcode = words::opcode(words);
-        let Decoded::Known(x) = command::decode(words) else {
-            return refused(t, u, done, Refusal::OpcodeUnknown, opcode);
-        };
-        let q = command::pair_sought(x);
-        let device = q.device;
-        let event = q.event;
-        let mut i = q.from;
-        let held: usize = loop {
-            if 64 <= i {
-                break 256;
-            }
-            let j = i * 4;
-            let r0 = u.translations[j];
-            let r1 = u.translations[j + 1];
-            let r2 = u.translations[j + 2];
-            let r3 = u.translations[j + 3];
-            let k = command::pair_among(r0, r1, r2, r3, device, event);
-            if k < 4 {
-                break j + k;
-            }
-            i += 1;
-        };
-        let mut g = command::free_from(held, q.from);
-        let free: usize = loop {
-            if 64 <= g {
-                break 256;
-            }
-            let j = g * 4;
-            let r0 = u.translations[j];
-            let r1 = u.translations[j + 1];
-            let r2 = u.translations[j + 2];
-            let r3 = u.translations[j + 3];
-            let k = command::free_among(r0, r1, r2, r3);
-            if k < 4 {
-                break j + k;
-            }
-            g += 1;
-        };
-        let place = command::place_seen(held, free);
-        let at = place.at;
-        let mut entry = tables::no_translation();
-        if at < 256 {
-            entry = u.translations[at];
-        }
-        let s = Seen {
-            place: place,
-            entry: entry,
-        };
-        let config = u.config;
-        let devices = u.devices;
-        let collections = u.collections;
-        let plan = command::plan_command(config, devices, collections, s, x);
-        let change = command::change_of(plan);
-        if change.refuses {
-            let why = change.why;
-            return refused(t, u, done, why, opcode);
-        }
-        let device_at = change.device_at;
-        if device_at < 32 {
-            let r = change.device;
-            u.devices[device_at] = r;
-        }
-        let collection_at = change.collection_at;
-        if collection_at < 32 {
-            let r = change.collection;
-            u.collections[collection_at] = r;
-        }
-        let pair_at = change.pair_at;
-        if pair_at < 256 {
-            let r = change.pair;
-            u.translations[pair_at] = r;
-        }
-        if change.drops {
-            u = command::drop_planned(u, plan);
-        }
-        let mut n = command::discard_from(change.discards, held);
-        while n < 256 {
-            let r = u.translations[n];
-            if tables::is_pair(r, device, event) {
-                u.translations[n] = tables::no_translation();
-            }
-            n += 1;
-        }
-        let size = words::queue_size(cbaser);
-        let next = creadr + 32;
-        registers.creadr = next % size;
-        u.registers = registers;
-        left -= 1;
-        done += 1;
-        let more = 0 < left;
-        if change.acts {
-            let a = change.action;
-            let actions = t.actions + 1;
-            return Progress {
-                more: more,
-                acted: true,
-                at: t.actions,
-                action: a,
-                left: left,
-                done: done,
-                actions: actions,
-                stopped: Stopped::Ended,
-                unit: u,
-            };
-        }
-        if !more {
-            let a = t.action;
-            return Progress {
-                more: false,
-                acted: false,
-                at: t.at,
-                action: a,
-                left: 0,
-                done: done,
-                actions: t.actions,
-                stopped: Stopped::Ended,
-                unit: u,
-            };
-        }
-    }
-}
-
-pub fn finish(t: Progress) -> Processed
+pub fn finish(t: Progress) -> Written
     ensures { λ r. ⌜ r ≡ finishOf t ⌝ }
 {
-    let u = t.unit;
-    let s = t.stopped;
-    Processed {
-        unit: u,
-        done: t.done,
-        actions: t.actions,
-        stopped: s,
+    let unit = t.unit;
+    let answer = t.answer;
+    Written {
+        unit: unit,
+        answer: answer,
     }
 }
 
-// The same of the window as one reader, for a caller that holds one. The run takes its window apart once: `advance` goes by value, so it is
-// handed address and bytes, and calls `command_at` itself.
-pub fn read_command<'a>(window: GuestWindow<'a>, wanted: u64) -> CommandRead
-    ensures { λ r. ⌜ r ≡ commandRead (lent (window .entry .address) (now (window .entry .bytes))) wanted ⌝ }
-{
-    command_at(window.address, window.bytes, wanted)
-}
-
-// The one store into the row that the host lends.
-pub fn store_action(row: &mut [ItsAction], at: usize, action: ItsAction)
-    requires { ⌜ at < length (now row) ⌝ }
-    ensures { λ _. ⌜ now (row .exit) ≡ set (now (row .entry)) at action ⌝ }
-{
-    row[at] = action;
-}
-
-// The waiting commands, at most as many as the budget, each in turn; the row gets their actions, the first first.
+// The waiting commands of a write, at most as many as the budget, each in turn; the row gets their actions, the first first.
 pub fn process_commands<'w, 'r>(
-    unit: ItsState,
+    begun: Progress,
     window: GuestWindow<'w>,
     row: &'r mut [ItsAction],
-) -> Processed
-    requires { ⌜ (soundUnit unit ≡ true) × (unit .config .«command_budget» ≤ length (now row)) ⌝ }
-    ensures { λ r. ⌜ (r ≡ processed (runQueue (lent (window .entry .address) (now (window .entry .bytes))) unit))
-        × (now (row .exit) ≡ rowAfter (runQueue (lent (window .entry .address) (now (window .entry .bytes))) unit .actions) (now (row .entry))) ⌝ }
+) -> Written
+    requires { ⌜ Begun begun (length (now row)) ⌝ }
+    ensures { λ r. ⌜ (r ≡ endOf (lent (window .entry .address) (now (window .entry .bytes))) begun (now (row .entry)) .written)
+        × (now (row .exit) ≡ endOf (lent (window .entry .address) (now (window .entry .bytes))) begun (now (row .entry)) .row) ⌝ }
 {
-    let address = window.address;
-    let bytes = window.bytes;
-    let mut t = start(unit);
+    let mut t = begun;
     while t.more {
-        t = advance(t, address, bytes);
+        let c = window::read_command(window, t.wanted);
+        t = turn(t, c);
         if t.acted {
-            store_action(row, t.at, t.action);
+            window::store_action(row, t.at, t.action);
         }
     }
     finish(t)

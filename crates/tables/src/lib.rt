@@ -7,14 +7,11 @@ use model::ItsCollection;
 use model::ItsDevice;
 use model::ItsDeviceId;
 use model::LpiId;
-use model::Place;
 use model::Translation;
 ghost use mathlib.Core.Path.{_≡_};
-ghost use mathlib.Core.Bool.{_||_};
-ghost use lib.Dec.{ltb};
+ghost use mathlib.Core.Bool.{not};
 ghost use lib.ListN.{getD};
-ghost use Rattle.model.specs.Choose.{if_then_else_};
-ghost use Rattle.model.specs.Table.{placeOf, dropAll};
+ghost use Rattle.model.specs.Table.{firstAt, place, dropAll};
 ghost use Rattle.model.specs.Keys.{isDevice, isCollection, isPair, ofDevice, noDevice, noCollection, noTranslation};
 ghost use Rattle.model.specs.Step.{pairIn};
 
@@ -83,75 +80,133 @@ pub fn of_device(t: Translation, device: ItsDeviceId) -> bool
     t.used & (t.device.0 == device.0)
 }
 
-// The lowest-numbered free record after one more record was seen, record `i`; `size` where none of those seen is free.
-fn free_after(free: usize, size: usize, i: usize, used: bool) -> usize
-    ensures { λ v. ⌜ v ≡ (if used || ltb free size then free else i) ⌝ }
+// The number of the record that counts, or the table's size.
+pub fn find_device(devices: [ItsDevice; 32], device: ItsDeviceId) -> usize
+    ensures { λ r. ⌜ r ≡ firstAt (isDevice device) devices ⌝ }
 {
-    if used | (free < size) { free } else { i }
-}
-
-// One pass over a table: where the record of the key is, or the lowest-numbered free record, or the table's size.
-pub fn place_of_device(devices: [ItsDevice; 32], device: ItsDeviceId) -> Place
-    ensures { λ r. ⌜ r ≡ placeOf (isDevice device) (λ a. a .used) devices ⌝ }
-{
-    let mut free: usize = DEVICES;
     let mut i: usize = 0;
     loop {
-        if i == DEVICES {
-            break Place {
-                at: free,
-                found: false,
-            };
+        if DEVICES <= i {
+            break DEVICES;
         }
         let r = devices[i];
         if is_device(r, device) {
-            break Place { at: i, found: true };
+            break i;
         }
-        free = free_after(free, DEVICES, i, r.used);
         i += 1;
     }
 }
 
-pub fn place_of_collection(collections: [ItsCollection; 32], collection: CollectionId) -> Place
-    ensures { λ r. ⌜ r ≡ placeOf (isCollection collection) (λ a. a .used) collections ⌝ }
+pub fn find_collection(collections: [ItsCollection; 32], collection: CollectionId) -> usize
+    ensures { λ r. ⌜ r ≡ firstAt (isCollection collection) collections ⌝ }
 {
-    let mut free: usize = COLLECTIONS;
     let mut i: usize = 0;
     loop {
-        if i == COLLECTIONS {
-            break Place {
-                at: free,
-                found: false,
-            };
+        if COLLECTIONS <= i {
+            break COLLECTIONS;
         }
         let r = collections[i];
         if is_collection(r, collection) {
-            break Place { at: i, found: true };
+            break i;
         }
-        free = free_after(free, COLLECTIONS, i, r.used);
         i += 1;
     }
 }
 
-pub fn place_of_pair(translations: [Translation; 256], device: ItsDeviceId, event: EventId) -> Place
-    ensures { λ r. ⌜ r ≡ placeOf (isPair device event) (λ a. a .used) translations ⌝ }
+pub fn find_pair(translations: [Translation; 256], device: ItsDeviceId, event: EventId) -> usize
+    ensures { λ r. ⌜ r ≡ firstAt (isPair device event) translations ⌝ }
 {
-    let mut free: usize = TRANSLATIONS;
     let mut i: usize = 0;
     loop {
-        if i == TRANSLATIONS {
-            break Place {
-                at: free,
-                found: false,
-            };
+        if TRANSLATIONS <= i {
+            break TRANSLATIONS;
         }
         let r = translations[i];
         if is_pair(r, device, event) {
-            break Place { at: i, found: true };
+            break i;
         }
-        free = free_after(free, TRANSLATIONS, i, r.used);
         i += 1;
     }
+}
+
+// The number of the first free record, or the table's size.
+fn first_free_device(devices: [ItsDevice; 32]) -> usize
+    ensures { λ r. ⌜ r ≡ firstAt (λ a. not (a .used)) devices ⌝ }
+{
+    let mut i: usize = 0;
+    loop {
+        if DEVICES <= i {
+            break DEVICES;
+        }
+        let r = devices[i];
+        if !r.used {
+            break i;
+        }
+        i += 1;
+    }
+}
+
+fn first_free_collection(collections: [ItsCollection; 32]) -> usize
+    ensures { λ r. ⌜ r ≡ firstAt (λ a. not (a .used)) collections ⌝ }
+{
+    let mut i: usize = 0;
+    loop {
+        if COLLECTIONS <= i {
+            break COLLECTIONS;
+        }
+        let r = collections[i];
+        if !r.used {
+            break i;
+        }
+        i += 1;
+    }
+}
+
+fn first_free_pair(translations: [Translation; 256]) -> usize
+    ensures { λ r. ⌜ r ≡ firstAt (λ a. not (a .used)) translations ⌝ }
+{
+    let mut i: usize = 0;
+    loop {
+        if TRANSLATIONS <= i {
+            break TRANSLATIONS;
+        }
+        let r = translations[i];
+        if !r.used {
+            break i;
+        }
+        i += 1;
+    }
+}
+
+// The place where the record of a key is or would go: its own, or the lowest-numbered free one; the table's size where there is none.
+pub fn place_of_device(devices: [ItsDevice; 32], device: ItsDeviceId) -> usize
+    ensures { λ r. ⌜ r ≡ place (isDevice device) (λ a. a .used) devices ⌝ }
+{
+    let held = find_device(devices, device);
+    if held < DEVICES {
+        return held;
+    }
+    first_free_device(devices)
+}
+
+pub fn place_of_collection(collections: [ItsCollection; 32], collection: CollectionId) -> usize
+    ensures { λ r. ⌜ r ≡ place (isCollection collection) (λ a. a .used) collections ⌝ }
+{
+    let held = find_collection(collections, collection);
+    if held < COLLECTIONS {
+        return held;
+    }
+    first_free_collection(collections)
+}
+
+pub fn place_of_pair(translations: [Translation; 256], device: ItsDeviceId, event: EventId) -> usize
+    ensures { λ r. ⌜ r ≡ place (isPair device event) (λ a. a .used) translations ⌝ }
+{
+    let held = find_pair(translations, device, event);
+    if held < TRANSLATIONS {
+        return held;
+    }
+    first_free_pair(translations)
 }
 
 // What stands at a place; beyond the table, a free record.
@@ -260,14 +315,15 @@ pub fn drop_translations_of(
 fn pair_in(translations: [Translation; 256], t: Translation, collection: CollectionId) -> bool
     ensures { λ v. ⌜ v ≡ pairIn collection translations t ⌝ }
 {
-    let p = place_of_pair(translations, t.device, t.event);
-    let at = p.at;
-    if p.found {
-        let counting = translations[at];
-        t.used & (counting.collection.0 == collection.0)
-    } else {
-        false
+    if !t.used {
+        return false;
     }
+    let counts = find_pair(translations, t.device, t.event);
+    if TRANSLATIONS <= counts {
+        return false;
+    }
+    let r = translation_at(translations, counts);
+    r.collection.0 == collection.0
 }
 
 pub fn drop_translations_in(
@@ -280,10 +336,8 @@ pub fn drop_translations_in(
     let mut i: usize = 0;
     while i < TRANSLATIONS {
         let old = translations[i];
-        if old.used {
-            if pair_in(translations, old, collection) {
-                left[i] = no_translation();
-            }
+        if pair_in(translations, old, collection) {
+            left[i] = no_translation();
         }
         i += 1;
     }

@@ -36,5 +36,6 @@ unfolding decimal
 number-laid l at k n e h = rw (one l at 32 h, ← e) (more l at (32 ∷ []) (omega arith) (digits k n))
 
 -- one number laid, and those that are left
-pub one-laid : (l : List ℕ) (at i count : ℕ) (ns : List ℕ) → at ≤ length l → i < length ns → i < count → laidAt (laidAt l at (32 ∷ decimal (getD ns i 0))) (at + suc (length (decimal (getD ns i 0)))) (left (i + 1) count ns) ≡ laidAt l at (left i count ns)
+pub one-laid : (l : List ℕ) (at i count : ℕ) (ns : List ℕ) → at ≤ length l → i < length ns → i < count →
+    laidAt (laidAt l at (32 ∷ decimal (getD ns i 0))) (at + suc (length (decimal (getD ns i 0)))) (left (i + 1) count ns) ≡ laidAt l at (left i count ns)
 one-laid l at i count ns h k m = rw (left-more i count ns k m) (more l at (32 ∷ decimal (getD ns i 0)) h (left (i + 1) count ns))

@@ -16,7 +16,7 @@ use Rattle.text.specs.declared.Laid.{Laid}
 use Rattle.text.specs.Laying.{output, laidAt}
 use Rattle.text.proofs.Fits.{at, full, fits, ending, fitting-within}
 use Rattle.trace.specs.Traced.{Traced}
-use Rattle.trace.specs.Steps.{Stand, stand, outputOf, runningOf, startOf, goesOn, numberReturned}
+use Rattle.trace.specs.Records.{Stand, stand, outputOf, runningOf, startOf, goesOn, numberReturned}
 use Rattle.trace.proofs.Rest.{linesIn, rest}
 
 -- nothing is left to read

@@ -12,7 +12,7 @@ use Rattle.model.specs.Trace.{parse}
 use Rattle.model.proofs.Cases.{and-left}
 use Rattle.trace.specs.declared.Run.{Run}
 use Rattle.trace.specs.Traced.{Traced}
-use Rattle.trace.specs.Steps.{stand, Within, after, startOf, goesOn, numberReturned}
+use Rattle.trace.specs.Records.{stand, Within, after, startOf, goesOn, numberReturned}
 use Rattle.trace.proofs.Rest.{rest, forward, Moves, moves}
 use Rattle.trace.proofs.Ends as Ends
 

@@ -11,7 +11,7 @@ use lib.ListN.{length, take, drop, getD}
 use borrow.Author.Tests.{le-leb, lt-leb, leb-true}
 use Rattle.model.specs.Choose.{if_then_else_}
 use Rattle.model.specs.Text.{ascii}
-use Rattle.model.specs.Trace.{Record, CF, GM, RD, WR, TR, Parsed, whole, broken, number, configIn, windowIn, sized, marked, parse}
+use Rattle.model.specs.Trace.{Record, CF, GM, RD, WR, TR, Parsed, whole, broken, number, configRead, windowIn, sized, marked, parse}
 use Rattle.model.proofs.Cases.{cases}
 use Rattle.trace.specs.declared.Mark.{Mark}
 use Rattle.trace.specs.declared.Mark.the-variants.{Cf, Gm, Rd, Wr, Tr, Bad}
@@ -64,7 +64,7 @@ size-left n = omega arith
 
 sound-as : (m : Mark) (l : List ℕ) → Sound l (parsedAs m l)
 unfolding parsedAs
-sound-as Cf l = sound-if l (leb 15 (length l)) (sized (15 + 2 * number 14 1 l) l (CF (configIn l))) (λ t. sound-sized l (15 + 2 * number 14 1 l) (CF (configIn l)) (omega arith) tt)
+sound-as Cf l = sound-if l (leb 15 (length l)) (sized (15 + 2 * number 14 1 l) l (CF (configRead l))) (λ t. sound-sized l (15 + 2 * number 14 1 l) (CF (configRead l)) (omega arith) tt)
 sound-as Gm l =
     sound-if l (leb 14 (length l) && leb (number 10 4 l) 4096) (sized (14 + number 10 4 l) l (GM (windowIn l)))
     (λ t. sound-sized l (14 + number 10 4 l) (GM (windowIn l)) (omega arith) (omega arith, rw size-left))
@@ -90,11 +90,11 @@ module _ (l : List ℕ) where
 
   pub cf-cut : 15 ≤ length l → length l < 15 + 2 * number 14 1 l → parsedAs Cf l ≡ broken
   unfolding parsedAs
-  cf-cut h k = rw (le-leb 15 (length l) h) (sized-short (15 + 2 * number 14 1 l) l (CF (configIn l)) k)
+  cf-cut h k = rw (le-leb 15 (length l) h) (sized-short (15 + 2 * number 14 1 l) l (CF (configRead l)) k)
 
-  pub cf-whole : 15 + 2 * number 14 1 l ≤ length l → parsedAs Cf l ≡ whole (CF (configIn l)) (15 + 2 * number 14 1 l)
+  pub cf-whole : 15 + 2 * number 14 1 l ≤ length l → parsedAs Cf l ≡ whole (CF (configRead l)) (15 + 2 * number 14 1 l)
   unfolding parsedAs
-  cf-whole h = rw (le-leb 15 (length l) (omega arith)) (sized-whole (15 + 2 * number 14 1 l) l (CF (configIn l)) h)
+  cf-whole h = rw (le-leb 15 (length l) (omega arith)) (sized-whole (15 + 2 * number 14 1 l) l (CF (configRead l)) h)
 
   pub gm-short : length l < 14 → parsedAs Gm l ≡ broken
   unfolding parsedAs

@@ -10,7 +10,7 @@ use Rattle.model.specs.Trace.{Record, CF, GM, RD, WR, TR, Parsed, whole, broken
 use Rattle.text.specs.Laying.{Output, layAll}
 use Rattle.text.proofs.Fits.{append}
 use Rattle.trace.specs.declared.Run.{Run}
-use Rattle.trace.specs.Steps.{Stand, outputOf, runningOf, partAfter, after}
+use Rattle.trace.specs.Records.{Stand, outputOf, runningOf, stretchAfter, after}
 use Rattle.trace.proofs.Parsing.{Takes, Sound, sound}
 
 -- two ways to go on that agree on every record that can be read come to the same
@@ -59,7 +59,8 @@ running-after trace s (RD offset width) n h = refl
 running-after trace s (WR offset width value) n h = refl
 running-after trace s (TR d e) n h = refl
 
-carried : (trace : List ℕ) (s : Stand) (p : Parsed) → Sound (leftOf trace s) p → rest trace (after trace s p) ≡ layAll (outputOf s) (goOnWith p (s .run .at) (λ r n. linesOf (runningOf trace (s .run)) r ++ linesIn (s .run .at + n) (next (runningOf trace (s .run)) r) (drop n (leftOf trace s))))
+carried : (trace : List ℕ) (s : Stand) (p : Parsed) → Sound (leftOf trace s) p → rest trace (after trace s p) ≡ layAll (outputOf s)
+    (goOnWith p (s .run .at) (λ r n. linesOf (runningOf trace (s .run)) r ++ linesIn (s .run .at + n) (next (runningOf trace (s .run)) r) (drop n (leftOf trace s))))
 carried trace s broken h = rw drop-length
 carried trace s (whole r n) h =
     rw (
@@ -81,7 +82,8 @@ pub record Moves (trace : List ℕ) (from to : Run) : Type 0 where
   pub reads : to .at ≤ length trace
   pub lent : to .from + to .size ≤ length trace
 
-lends-within : (trace : List ℕ) (s : Stand) (r : Record) (n : ℕ) → s .run .at + n ≤ length trace → Takes (leftOf trace s) n r → s .run .from + s .run .size ≤ length trace → partAfter (s .run) n r .from + partAfter (s .run) n r .size ≤ length trace
+lends-within : (trace : List ℕ) (s : Stand) (r : Record) (n : ℕ) → s .run .at + n ≤ length trace → Takes (leftOf trace s) n r →
+    s .run .from + s .run .size ≤ length trace → stretchAfter (s .run) n r .from + stretchAfter (s .run) n r .size ≤ length trace
 lends-within trace s (CF k) n h t l = l
 lends-within trace s (GM w) n h t l = omega (arith, t .lends .0)
 lends-within trace s (RD offset width) n h t l = l

@@ -1,3 +1,3 @@
 pub mod Traced
 pub mod Marks
-pub mod Steps
+pub mod Records

@@ -1,4 +1,4 @@
-// The trace: records in, lines out, through the entries that a host calls. What a run over a trace writes and returns says the model; specs/Steps.antt
+// The trace: records in, lines out, through the entries that a host calls. What a run over a trace writes and returns says the model; specs/Records.antt
 // takes the run one record at a time, and proofs/Rest.antt shows that the records add up to the model's run.
 mod parts;
 // For a program that looks at the unit between two records; a host calls `run_trace`.
@@ -9,7 +9,7 @@ use text::Laid;
 ghost use mathlib.Core.Path.{_≡_};
 ghost use Prim.Native.Nat.{_≤_};
 ghost use Rattle.trace.specs.Traced.{Traced};
-ghost use Rattle.trace.specs.Steps.{startOf, numberReturned, goesOn};
+ghost use Rattle.trace.specs.Records.{startOf, numberReturned, goesOn};
 
 // The mark of a record.
 pub enum Mark {

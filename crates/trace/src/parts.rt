@@ -8,7 +8,7 @@ ghost use mathlib.Core.List.{_++_};
 ghost use lib.Dec.{eqb};
 ghost use Prim.Native.Nat.{_+_, _*_, _≤_, _<_, _^_};
 ghost use lib.ListN.{length, take, replicate};
-ghost use Rattle.model.specs.Trace.{number, numbers, configIn};
+ghost use Rattle.model.specs.Trace.{number, numbers, configRead};
 ghost use Rattle.trace.specs.Marks.{markOf};
 
 // Whether two bytes are those of a mark.
@@ -95,7 +95,7 @@ fn processors_in(bytes: &[u8], count: usize) -> [GicVcpuId; 16]
 // The configuration of a CF.
 pub fn config_in(bytes: &[u8], count: u8) -> ItsConfig
     requires { ⌜ (15 + 2 * count ≤ length (now bytes)) × (count ≡ number 14 1 (now bytes)) ⌝ }
-    ensures { λ r. ⌜ r ≡ configIn (now (bytes .entry)) ⌝ }
+    ensures { λ r. ⌜ r ≡ configRead (now (bytes .entry)) ⌝ }
 {
     let limit = number_at(bytes, 2, 4) as u32;
     let budget = number_at(bytes, 6, 4) as u32;

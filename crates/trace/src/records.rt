@@ -13,11 +13,11 @@ ghost use lib.ListN.{take, drop};
 ghost use Rattle.model.specs.Refusal.{writeNumbers};
 ghost use Rattle.model.specs.Trace.{broken, parse, actionLine, writeLine};
 ghost use Rattle.text.specs.Laying.{lineOf, output, layAll};
-ghost use Rattle.trace.specs.Steps.{stand, Within, partOf, onward, after, Carries};
+ghost use Rattle.trace.specs.Records.{stand, Within, stretchOf, onward, after, CarriesRecord};
 
 // One line more, and the trace read up to a place.
 fn moved(out: &mut [u8], run: Run, at: usize, line: Line) -> Run
-    ensures { λ r. ⌜ stand (now (out .exit)) r ≡ onward (stand (now (out .entry)) run) at (partOf run) (run .unit) (lineOf line ∷ []) ⌝ }
+    ensures { λ r. ⌜ stand (now (out .exit)) r ≡ onward (stand (now (out .entry)) run) at (stretchOf run) (run .unit) (lineOf line ∷ []) ⌝ }
 {
     let laid = run.laid;
     let next = text::put_line(out, laid, line);
@@ -38,7 +38,7 @@ fn broken_off(trace: &[u8], out: &mut [u8], run: Run) -> Run
 // CF starts a fresh unit and keeps the window.
 fn configured(trace: &[u8], bytes: &[u8], out: &mut [u8], run: Run) -> Run
     requires { ⌜ Within (now trace) (now bytes) run ⌝ }
-    ensures { λ r. ⌜ Carries Mark.Cf (now (trace .entry)) (now (bytes .entry)) (now (out .entry)) run (now (out .exit)) r ⌝ }
+    ensures { λ r. ⌜ CarriesRecord Mark.Cf (now (trace .entry)) (now (bytes .entry)) (now (out .entry)) run (now (out .exit)) r ⌝ }
 {
     if bytes.len() < 15 {
         return broken_off(trace, out, run);
@@ -62,7 +62,7 @@ fn configured(trace: &[u8], bytes: &[u8], out: &mut [u8], run: Run) -> Run
 // GM replaces the window.
 fn windowed(trace: &[u8], bytes: &[u8], out: &mut [u8], run: Run) -> Run
     requires { ⌜ Within (now trace) (now bytes) run ⌝ }
-    ensures { λ r. ⌜ Carries Mark.Gm (now (trace .entry)) (now (bytes .entry)) (now (out .entry)) run (now (out .exit)) r ⌝ }
+    ensures { λ r. ⌜ CarriesRecord Mark.Gm (now (trace .entry)) (now (bytes .entry)) (now (out .entry)) run (now (out .exit)) r ⌝ }
 {
     if bytes.len() < 14 {
         return broken_off(trace, out, run);
@@ -89,7 +89,7 @@ fn windowed(trace: &[u8], bytes: &[u8], out: &mut [u8], run: Run) -> Run
 // RD and TR change neither the unit nor the window.
 fn read(trace: &[u8], bytes: &[u8], out: &mut [u8], run: Run) -> Run
     requires { ⌜ Within (now trace) (now bytes) run ⌝ }
-    ensures { λ r. ⌜ Carries Mark.Rd (now (trace .entry)) (now (bytes .entry)) (now (out .entry)) run (now (out .exit)) r ⌝ }
+    ensures { λ r. ⌜ CarriesRecord Mark.Rd (now (trace .entry)) (now (bytes .entry)) (now (out .entry)) run (now (out .exit)) r ⌝ }
 {
     if bytes.len() < 11 {
         return broken_off(trace, out, run);
@@ -105,7 +105,7 @@ fn read(trace: &[u8], bytes: &[u8], out: &mut [u8], run: Run) -> Run
 
 fn translated(trace: &[u8], bytes: &[u8], out: &mut [u8], run: Run) -> Run
     requires { ⌜ Within (now trace) (now bytes) run ⌝ }
-    ensures { λ r. ⌜ Carries Mark.Tr (now (trace .entry)) (now (bytes .entry)) (now (out .entry)) run (now (out .exit)) r ⌝ }
+    ensures { λ r. ⌜ CarriesRecord Mark.Tr (now (trace .entry)) (now (bytes .entry)) (now (out .entry)) run (now (out .exit)) r ⌝ }
 {
     if bytes.len() < 10 {
         return broken_off(trace, out, run);
@@ -125,7 +125,7 @@ fn put_written(out: &mut [u8], laid: Laid, answer: WriteAnswer, row: [ItsAction;
 {
     let line = text::lines::of_write(answer);
     let mut next = text::put_line(out, laid, line);
-    let count = text::lines::handed(answer);
+    let count = answers::handed(answer);
     let mut i: usize = 0;
     loop {
         if 1024 <= i {
@@ -145,7 +145,7 @@ fn put_written(out: &mut [u8], laid: Laid, answer: WriteAnswer, row: [ItsAction;
 // WR gives the next unit.
 fn written(trace: &[u8], bytes: &[u8], out: &mut [u8], run: Run) -> Run
     requires { ⌜ Within (now trace) (now bytes) run ⌝ }
-    ensures { λ r. ⌜ Carries Mark.Wr (now (trace .entry)) (now (bytes .entry)) (now (out .entry)) run (now (out .exit)) r ⌝ }
+    ensures { λ r. ⌜ CarriesRecord Mark.Wr (now (trace .entry)) (now (bytes .entry)) (now (out .entry)) run (now (out .exit)) r ⌝ }
 {
     if bytes.len() < 19 {
         return broken_off(trace, out, run);

@@ -1,50 +1,53 @@
--- `command::execute` meets its contract: the plan of the command, what it does and what it comes to.
+-- `command::execute` meets its contract: in each arm the command is the one that the arm names. A command that only looks leaves the unit.
 -- Assumes nothing.
-use Rattle.model.proofs.TableLoops.{length-mapped}
-use Rattle.model.proofs.Places.{At, Before}
-use Rattle.model.proofs.Plans.{Sized, carried}
+use mathlib.Core.Path.{_∙_}
 use borrow.Author.Needs.{needs}
+use Rattle.model.specs.Step.{executed, stepped}
+use Rattle.model.proofs.CommandLaws.{both-are, int-keeps, clear-keeps, inv-keeps, invall-keeps}
 use Rattle.command.proofs.execute.Statement.{statement}
 use Rattle.command.proofs.execute.Tie as tie
 
-pair-sought-requires : tie.Need-pair-sought-requires
-pair-sought-requires c κs = search needs
-
-see-requires : tie.Need-see-requires
-see-requires c κs = search needs
-
-plan-command-requires : tie.Need-plan-command-requires
-plan-command-requires c κs = search needs
-
-apply-plan-requires : tie.Need-apply-plan-requires
-apply-plan-requires c κs = search needs
-
-answer-of-requires : tie.Need-answer-of-requires
-answer-of-requires c κs = search needs
-
--- the tables have their sizes from the start
-abbrev Start : Type 0
-Start = Before {A = At pair-sought-requires} (λ c. c .before .before .before .before)
-
-sized : (s : Start) → Sized (s .args .unit)
-sized s = record { devices = search (needs, length-mapped); collections = search (needs, length-mapped); translations = search (needs, length-mapped) }
-
 returns : tie.Need-returns
-returns c =
-    let at-apply = c .before in
-    let at-plan = at-apply .before in
-    let at-see = at-plan .before in
-    let at-pair = at-see .before in
-    let start = at-pair .before .before .before .before .before in
-    carried (start .args .unit) (sized start) (start .args .x) (at-pair .pair-sought .ensures) (at-see .see .ensures) (at-plan .plan-command .ensures) (at-apply .apply-plan .ensures) (c .answer-of .ensures)
+returns c = rw (c .before .before .x .given .1) (c .map-device .ensures)
+
+returns-2 : tie.Need-returns-2
+returns-2 c = rw (c .before .before .x2 .given .1) (c .map-collection .ensures)
+
+returns-3 : tie.Need-returns-3
+returns-3 c = rw (c .before .before .x3 .given .1) (c .map-translation .ensures)
+
+returns-4 : tie.Need-returns-4
+unfolding executed stepped
+returns-4 c = rw (c .before .before .x4 .given .1) (c .map-translation2 .ensures)
+
+returns-5 : tie.Need-returns-5
+returns-5 c = rw (c .before .before .x5 .given .1) (c .move-translation .ensures)
+
+returns-6 : tie.Need-returns-6
+returns-6 c = rw (c .before .before .before .x6 .given .1) (c .carried .ensures ∙ both-are _ _ (c .before .set-pending .ensures, int-keeps _ _ _))
+
+returns-7 : tie.Need-returns-7
+returns-7 c = rw (c .before .before .before .x7 .given .1) (c .carried2 .ensures ∙ both-are _ _ (c .before .set-pending2 .ensures, clear-keeps _ _ _))
+
+returns-8 : tie.Need-returns-8
+returns-8 c = rw (c .before .before .x8 .given .1) (c .discard .ensures)
+
+returns-9 : tie.Need-returns-9
+returns-9 c = rw (c .before .before .before .x9 .given .1) (c .carried3 .ensures ∙ both-are _ _ (c .before .invalidate .ensures, inv-keeps _ _ _))
+
+returns-10 : tie.Need-returns-10
+returns-10 c = rw (c .before .before .before .x10 .given .1) (c .carried4 .ensures ∙ both-are _ _ (c .before .invalidate-all .ensures, invall-keeps _ _))
+
+returns-11 : tie.Need-returns-11
+unfolding executed stepped
+returns-11 c = rw (c .before .enum-told .given .1) (c .carried5 .ensures)
 
 pub execute-spec : {M : Type 1} → statement M
 execute-spec =
     tie.close
-    (tie.spec
-    pair-sought-requires
-    see-requires
-    plan-command-requires
-    apply-plan-requires
-    answer-of-requires
-    returns)
+    (tie.spec (λ c. search needs) (λ c κs. search needs) (λ c. search needs) (λ c κs. search needs) (λ c. search needs) (λ c κs. search needs)
+    (λ c. search needs) (λ c κs. search needs) (λ c. search needs) (λ c κs. search needs) (λ c. search needs) (λ c κs. search needs)
+    (λ c κs. search needs) (λ c. search needs) (λ c κs. search needs) (λ c κs. search needs) (λ c. search needs) (λ c κs. search needs)
+    (λ c. search needs) (λ c κs. search needs) (λ c κs. search needs) (λ c. search needs) (λ c κs. search needs) (λ c κs. search needs)
+    (λ c. search needs) (λ c κs. search needs) returns returns-2 returns-3 returns-4 returns-5 returns-6 returns-7 returns-8 returns-9 returns-10
+    returns-11)

@@ -6,14 +6,8 @@ use Rattle.model.specs.Config.{freshUnit}
 use Rattle.its.proofs.no_unit.Statement.{statement}
 use Rattle.its.proofs.no_unit.Tie as tie
 
-no-config-requires : tie.Need-no-config-requires
-no-config-requires c κs = search needs
-
-fresh-requires : tie.Need-fresh-requires
-fresh-requires c κs = search needs
-
 returns : tie.Need-returns
 returns c = c .fresh .ensures ∙ ap freshUnit (c .before .no-config .ensures)
 
 pub no-unit-spec : {M : Type 1} → statement M
-no-unit-spec = tie.close (tie.spec no-config-requires fresh-requires returns)
+no-unit-spec = tie.close (tie.spec (λ c κs. search needs) (λ c κs. search needs) returns)

@@ -1,16 +1,13 @@
--- `its::read_its` meets its contract: a read depends on the configuration and the registers alone.
+-- `its::read_its` meets its contract.
 -- Assumes nothing.
+use mathlib.Core.Path.{ap}
 use borrow.Author.Needs.{needs}
-use mathlib.Core.Path.{_∙_}
-use Rattle.its.proofs.Bare.{same-read}
+use Rattle.model.specs.Refusal.{readNumbers}
 use Rattle.its.proofs.read_its.Statement.{statement}
 use Rattle.its.proofs.read_its.Tie as tie
 
-read-from-requires : tie.Need-read-from-requires
-read-from-requires c κs = search needs
-
 returns : tie.Need-returns
-returns c = let a = c .before .before .before .args in c .read-from .ensures ∙ same-read (a .unit) (a .offset) (a .width)
+returns c = record { answer = c .read-from .ensures; numbers = ap readNumbers (c .read-from .ensures) }
 
 pub read-its-spec : {M : Type 1} → statement M
-read-its-spec = tie.close (tie.spec read-from-requires returns)
+read-its-spec = tie.close (tie.spec (λ c κs. search needs) returns)

@@ -1,4 +1,6 @@
--- `its::write_lent` meets its contract: a walk of its MIR, by hand. A window is made of the two plain parameters, and the first records of a row in a local are lent to `write_its` for the lifetime of the call (`LocalRow.antt`); they come back as the call left them. All that the proof knows of `fresh_row`, `lent_of`, `write_its` and `with_row` is that each meets its contract.
+-- `its::write_lent` meets its contract: a walk of its MIR, by hand. A window is made of the two plain parameters, and the first records of a row in
+-- a local are lent to `write_its` for the lifetime of the call (`LocalRow.antt`); they come back as the call left them. All that the proof knows of
+-- `fresh_row`, `lent_of`, `write_its` and `with_row` is that each meets its contract.
 -- Assumes nothing.
 use mathlib.Core.Path.{_≡_, refl, sym, _∙_, ap, subst}
 use Prim.Native.Nat.{ℕ, _<_, _^_}
@@ -54,15 +56,15 @@ use Rattle.model.proofs.ItsState as S
 use Rattle.model.proofs.ItsState.Laws as S′
 use Rattle.model.proofs.Written as Z
 use Rattle.model.proofs.Written.Laws as Z′
-use Rattle.queue.specs.declared.GuestWindow.{GuestWindow}
-use Rattle.queue.specs.Reading.{lent}
-use Rattle.queue.proofs.GuestWindow as G
-use Rattle.queue.proofs.GuestWindow.Laws as G′
-use Rattle.queue.proofs.Boxed.{τS, vS, S-typed}
+use Rattle.window.specs.declared.GuestWindow.{GuestWindow}
+use Rattle.decoding.specs.Reading.{lent}
+use Rattle.window.proofs.GuestWindow as G
+use Rattle.window.proofs.GuestWindow.Laws as G′
+use Rattle.queue.proofs.Boxed.{τW, W-typed}
 use Rattle.its.specs.declared.WrittenRow.{WrittenRow}
 use Rattle.its.specs.Contracts.{Writes, WritesLent, besideRow, lentOf}
 use Rattle.its.proofs.WrittenRow as O
-use Rattle.its.proofs.Boxed.{τW, τO, W-typed, O-typed}
+use Rattle.its.proofs.Boxed.{τS, τO, vS, S-typed, O-typed}
 use Rattle.its.proofs.LocalRow.{AsSlice, Lends, lends-array, WholeAgain, array-back}
 use Rattle.its.proofs.Lending.{lent-fits, lent-length, lent-whole, ends-as}
 use Rattle.its.proofs.fresh_row as fresh
@@ -145,7 +147,9 @@ boxed = record {
   lifetimes = 1;
   outlives = [];
   params = 7;
-  locals = local τO valueLocal ∷ local τS valueLocal ∷ local word valueLocal ∷ local bytes valueLocal ∷ local word valueLocal ∷ local word valueLocal ∷ local byte valueLocal ∷ local word valueLocal ∷ local τA memorySlot ∷ local word valueLocal ∷ local τW valueLocal ∷ local τA valueLocal ∷ local window-on valueLocal ∷ local reference valueLocal ∷ local lent-on valueLocal ∷ [];
+  locals = local τO valueLocal ∷ local τS valueLocal ∷ local word valueLocal ∷ local bytes valueLocal ∷ local word valueLocal ∷
+      local word valueLocal ∷ local byte valueLocal ∷ local word valueLocal ∷ local τA memorySlot ∷ local word valueLocal ∷ local τW valueLocal ∷
+      local τA valueLocal ∷ local window-on valueLocal ∷ local reference valueLocal ∷ local lent-on valueLocal ∷ [];
   body = pieces.t-1;
 }
 
@@ -154,7 +158,8 @@ unfolding τW τO τS
 boxed-is = refl
 
 module _ {M : Type 1} (𝓤 : URA M) (H : Heap 𝓤) (A : Atoms 𝓤) (W : Given 𝓤 H A) (mem : Memory → SProp 𝓤) (run : Routine → Fun 𝓤) (κ : Lft) (q : Share) (y : RefT (List ℕ)) (st : ItsState) (address n offset width value : ℕ)
-    (st-is : Is S.the-row st (vS st ∷ [])) (y-is : Is (ShrSlice (named 0) κ u8) y (sliceVal (y .ptr) (length (y .now)) ∷ [])) (address-fits : address < 2 ^ 64) (n-fits : n < 2 ^ 64) (offset-fits : offset < 2 ^ 64) (width-fits : width < 2 ^ 8) (value-fits : value < 2 ^ 64) where
+    (st-is : Is S.the-row st (vS st ∷ [])) (y-is : Is (ShrSlice (named 0) κ u8) y (sliceVal (y .ptr) (length (y .now)) ∷ []))
+    (address-fits : address < 2 ^ 64) (n-fits : n < 2 ^ 64) (offset-fits : offset < 2 ^ 64) (width-fits : width < 2 ^ 8) (value-fits : value < 2 ^ 64) where
   abbrev v : Val
   v = sliceVal (y .ptr) (length (y .now))
 
@@ -189,7 +194,9 @@ module _ {M : Type 1} (𝓤 : URA M) (H : Heap 𝓤) (A : Atoms 𝓤) (W : Given
       suffices ! _ (ends-at 𝓤 H A f.ended stayed (f.clauses 𝓤 H A mem run) W (((κ, tt), (q, tt), tt, a, vals), tt) w r (tt, (tt, (tt, (tt, (tt, (tt, (tt, tt))))))) (tt, (tt, (tt, (tt, (tt, (tt, (tt, tt)))))))) $ says ! e $
       nothing ! $ move ! (2 ∷ 0 ∷ []) $ join ! $ frame ! $
       -- [what the result owns; what bytes owns]
-      nothing ! $ owned ! u64 (Is u64) (uint-makes 𝓤 H A W w64) value _ (refl, value-fits) $ fjoin ! $ owned ! u8 (Is u8) (uint-makes 𝓤 H A W w8) width _ (refl, width-fits) $ fjoin ! $ owned ! u64 (Is u64) (uint-makes 𝓤 H A W w64) offset _ (refl, offset-fits) $ fjoin ! $ owned ! usize (Is usize) (uint-makes 𝓤 H A W w64) n _ (refl, n-fits) $ fjoin ! $
+      nothing ! $ owned ! u64 (Is u64) (uint-makes 𝓤 H A W w64) value _ (refl, value-fits) $ fjoin ! $ owned ! u8 (Is u8)
+      (uint-makes 𝓤 H A W w8) width _ (refl, width-fits) $ fjoin ! $ owned ! u64 (Is u64)
+      (uint-makes 𝓤 H A W w64) offset _ (refl, offset-fits) $ fjoin ! $ owned ! usize (Is usize) (uint-makes 𝓤 H A W w64) n _ (refl, n-fits) $ fjoin ! $
       move ! (2 ∷ 0 ∷ []) $ fjoin ! $ owned ! u64 (Is u64) (uint-makes 𝓤 H A W w64) address _ (refl, address-fits) $ fjoin ! $
       owned ! S.the-row (Is S.the-row) (LL.makes S.the-type S′.the-plain 𝓤 H A) st _ st-is $ fjoin ! $ done !
 
@@ -212,7 +219,16 @@ module _ {M : Type 1} (𝓤 : URA M) (H : Heap 𝓤) (A : Atoms 𝓤) (W : Given
     x γ l = record { ptr = (b, 0); name = γ; now = l }
 
     abbrev to-write : GName → List ItsAction → Write 𝓤 H A mem run .Ghost
-    to-write γ l = (((κ, (ν ∷ [], tt)), (q, (fullShare, tt)), tt, (st, (d, (x γ l, (offset, (width, (value, tt)))))), (vS st ∷ [], (mach ∷ [], (sliceVal (b, 0) (length l) ∷ [], (vint w64 offset ∷ [], (vint w8 width ∷ [], (vint w64 value ∷ [], tt))))))), tt)
+    to-write γ l = (
+      (
+        (κ, (ν ∷ [], tt)),
+        (q, (fullShare, tt)),
+        tt,
+        (st, (d, (x γ l, (offset, (width, (value, tt)))))),
+        (vS st ∷ [], (mach ∷ [], (sliceVal (b, 0) (length l) ∷ [], (vint w64 offset ∷ [], (vint w8 width ∷ [], (vint w64 value ∷ [], tt)))))),
+      ),
+      tt,
+    )
 
     abbrev RowOwn : GName → List ItsAction → Fml
     RowOwn γ l = AsSlice 𝓤 H A W R.the-row tt 1024 b (named 1) (ν ∷ []) l γ
@@ -225,7 +241,8 @@ module _ {M : Type 1} (𝓤 : URA M) (H : Heap 𝓤) (A : Atoms 𝓤) (W : Given
         move ! (2 ∷ []) $ nothing ! $ move ! (1 ∷ 0 ∷ []) $ fjoin ! $ owned ! u64 (Is u64) (uint-makes 𝓤 H A W w64) address _ (refl, address-fits) $ fjoin ! $
         use1 W (‵ (G.the-row (namedLft 2 0 tt (κ, (ν ∷ [], tt))) .own d (mach ∷ []))) (own-shut 𝓤 H A W (G.the-type (namedLft 2 0 tt (κ, (ν ∷ [], tt)))) (G′.the-laws (namedLft 2 0 tt (κ, (ν ∷ [], tt)))) (address, (y, tt))) $
         -- [what the window owns; the tokens; what the row owns]
-        nothing ! $ owned ! u64 (Is u64) (uint-makes 𝓤 H A W w64) value _ (refl, value-fits) $ fjoin ! $ owned ! u8 (Is u8) (uint-makes 𝓤 H A W w8) width _ (refl, width-fits) $ fjoin ! $ owned ! u64 (Is u64) (uint-makes 𝓤 H A W w64) offset _ (refl, offset-fits) $ fjoin ! $
+        nothing ! $ owned ! u64 (Is u64) (uint-makes 𝓤 H A W w64) value _ (refl, value-fits) $ fjoin ! $ owned ! u8 (Is u8)
+        (uint-makes 𝓤 H A W w8) width _ (refl, width-fits) $ fjoin ! $ owned ! u64 (Is u64) (uint-makes 𝓤 H A W w64) offset _ (refl, offset-fits) $ fjoin ! $
         move ! (3 ∷ 0 ∷ []) $ fjoin ! $ move ! (1 ∷ 0 ∷ []) $ fjoin ! $ owned ! S.the-row (Is S.the-row) (LL.makes S.the-type S′.the-plain 𝓤 H A) st _ st-is $ fjoin ! $
         move ! (1 ∷ 0 ∷ []) $ join ! $ frame ! $ done !
 
@@ -234,9 +251,12 @@ module _ {M : Type 1} (𝓤 : URA M) (H : Heap 𝓤) (A : Atoms 𝓤) (W : Given
 
   goes-beside : (t : Written) (w : Val) (zs : List ItsAction) (u : Val) → Is Z.the-row t (w ∷ []) → Is Row zs (u ∷ []) → ent 𝓤 (emp 𝓤) (Beside 𝓤 H A mem run .pre (to-beside t w zs u))
   goes-beside t w zs u t-is zs-is =
-      qed W [] ∵ nothing ! $ owned ! Row (Is Row) (array-makes 𝓤 H A W R.the-row (LL.makes R.the-type R′.the-plain 𝓤 H A) 1024) zs _ zs-is $ fjoin ! $ owned ! Z.the-row (Is Z.the-row) (LL.makes Z.the-type Z′.the-plain 𝓤 H A) t _ t-is $ fjoin ! $ nothing ! $ join ! $ frame ! $ done !
+      qed W [] ∵ nothing ! $ owned ! Row (Is Row) (array-makes 𝓤 H A W R.the-row (LL.makes R.the-type R′.the-plain 𝓤 H A) 1024) zs _ zs-is $
+      fjoin ! $ owned ! Z.the-row (Is Z.the-row) (LL.makes Z.the-type Z′.the-plain 𝓤 H A) t _ t-is $ fjoin ! $ nothing ! $ join ! $ frame ! $ done !
 
-  module _ (𝓣 : Tables 𝓤 H) (known-fresh : Triple 𝓤 (𝓣 .C #its·fresh-row) (Fresh 𝓤 H A mem run)) (known-lent-of : Triple 𝓤 (𝓣 .C #its·lent-of) (LentOf 𝓤 H A mem run)) (known-write : Triple 𝓤 (𝓣 .C #its·write-its) (Write 𝓤 H A mem run)) (known-beside : Triple 𝓤 (𝓣 .C #its·with-row) (Beside 𝓤 H A mem run)) where
+  module _ (𝓣 : Tables 𝓤 H) (known-fresh : Triple 𝓤 (𝓣 .C #its·fresh-row) (Fresh 𝓤 H A mem run))
+      (known-lent-of : Triple 𝓤 (𝓣 .C #its·lent-of) (LentOf 𝓤 H A mem run)) (known-write : Triple 𝓤 (𝓣 .C #its·write-its) (Write 𝓤 H A mem run))
+      (known-beside : Triple 𝓤 (𝓣 .C #its·with-row) (Beside 𝓤 H A mem run)) where
     row-typed : (l : List ItsAction) (u : Val) → Is Row l (u ∷ []) → Holds (hasTy τA u) × WT u
     row-typed l u is = array-lawful 𝓤 H A W R.the-row (LL.lawful R.the-type R′.the-laws 𝓤 H A W) 1024 .typed l _ is .0
 
@@ -246,10 +266,13 @@ module _ {M : Type 1} (𝓤 : URA M) (H : Heap 𝓤) (A : Atoms 𝓤) (W : Given
 
     walk : ent 𝓤 (onEntry 𝓤 H A f.signature (κ, tt) (q, tt) a vals) (WpFn 𝓤 H (𝓣 .C) (𝓣 .Λ) boxed (vS st ∷ vint w64 address ∷ v ∷ vint w64 n ∷ vint w64 offset ∷ vint w8 width ∷ vint w64 value ∷ []) Post)
     walk =
-        qed W ((‵ (flft κ q) ⊛ ‵ ftrue) ∷ ‵ (owns (S.the-row ∷ u64 ∷ ShrSlice (named 0) κ u8 ∷ usize ∷ u64 ∷ u8 ∷ u64 ∷ []) a vals) ∷ []) ∵ enter ! (𝓣 .C) (𝓣 .Λ) boxed (vS st ∷ vint w64 address ∷ v ∷ vint w64 n ∷ vint w64 offset ∷ vint w8 width ∷ vint w64 value ∷ []) _ $
-        alloc1 ! (λ l₀. alloc1 ! (λ l₁. alloc1 ! (λ l₂. alloc1 ! (λ l₃. alloc1 ! (λ l₄. alloc1 ! (λ l₅. alloc1 ! (λ l₆. alloc1 ! (λ l₇. alloc1 ! (λ l₈. alloc1 ! (λ l₉. alloc1 ! (λ l₁₀. alloc1 ! (λ l₁₁. alloc1 ! (λ l₁₂. alloc1 ! (λ l₁₃. alloc1 ! (λ l₁₄. alloc0 ! $ params1 ! $
+        qed W ((‵ (flft κ q) ⊛ ‵ ftrue) ∷ ‵ (owns (S.the-row ∷ u64 ∷ ShrSlice (named 0) κ u8 ∷ usize ∷ u64 ∷ u8 ∷ u64 ∷ []) a vals) ∷
+        []) ∵ enter ! (𝓣 .C) (𝓣 .Λ) boxed (vS st ∷ vint w64 address ∷ v ∷ vint w64 n ∷ vint w64 offset ∷ vint w8 width ∷ vint w64 value ∷ []) _ $
+        alloc1 ! (λ l₀. alloc1 ! (λ l₁. alloc1 ! (λ l₂. alloc1 ! (λ l₃. alloc1 ! (λ l₄. alloc1 ! (λ l₅. alloc1 ! (λ l₆. alloc1 ! (λ l₇. alloc1 !
+        (λ l₈. alloc1 ! (λ l₉. alloc1 ! (λ l₁₀. alloc1 ! (λ l₁₁. alloc1 ! (λ l₁₂. alloc1 ! (λ l₁₃. alloc1 ! (λ l₁₄. alloc0 ! $ params1 ! $
         pass1 ! (init ! 26 refl (S-typed 𝓤 H A W st _ st-is)) $ pass1 ! (init ! 24 refl (tt, record { fits = address-fits })) $ pass1 ! (init ! 22 refl (shr-slice-lawful 𝓤 H A W (named 0) κ u8 .typed y (v ∷ []) y-is .0)) $
-        pass1 ! (init ! 20 refl (tt, record { fits = n-fits })) $ pass1 ! (init ! 18 refl (tt, record { fits = offset-fits })) $ pass1 ! (init ! 16 refl (tt, record { fits = width-fits })) $ pass1 ! (init ! 14 refl (tt, record { fits = value-fits })) $ pass0 ! $
+        pass1 ! (init ! 20 refl (tt, record { fits = n-fits })) $ pass1 ! (init ! 18 refl (tt, record { fits = offset-fits })) $
+        pass1 ! (init ! 16 refl (tt, record { fits = width-fits })) $ pass1 ! (init ! 14 refl (tt, record { fits = value-fits })) $ pass0 ! $
         -- [_14; …; room for _0; …; the token; what the parameters own]
         move ! (31 ∷ []) $ fsplit ! $ drop ! $ fsplit ! $ drop ! $ fsplit ! $ move ! (1 ∷ []) $ drop ! $
         -- [what bytes owns; _14; …; the token]: `fresh_row`
@@ -275,34 +298,57 @@ module _ {M : Type 1} (𝓤 : URA M) (H : Heap 𝓤) (A : Atoms 𝓤) (W : Given
         -- the first records are lent, for a lifetime ν of the call
         rewrite ! 0 (λ (l : List ItsAction). ‵ (Row .own l (v₀ ∷ []))) (sym (take-append-drop (lentOf n) r)) refl $
         lft-new ! tt (λ ν. move ! (15 ∷ 1 ∷ []) $
-        use2 W (later (some (λ (γ : GName). ‵ (RowOwn ν l₈ γ (take (lentOf n) r)) ⊛ ‵ (Lends 𝓤 H A W R.the-row tt 1024 l₈ (ν ∷ []) (length (take (lentOf n) r)) (behind (lentOf n) r) γ)))) (lends-array 𝓤 H A W R.the-row tt 1024 l₈ (named 1) (ν ∷ []) (take (lentOf n) r) (behind (lentOf n) r) v₀ (first-room r (is .1 .0 .1))) $ await ! tt $ pick ! (λ γ. split ! $
+        use2 W (later (some (λ (γ : GName). ‵ (RowOwn ν l₈ γ (take (lentOf n) r)) ⊛ ‵ (Lends 𝓤 H A W R.the-row tt 1024 l₈ (ν ∷ [])
+        (length (take (lentOf n) r)) (behind (lentOf n) r) γ))))
+        (lends-array 𝓤 H A W R.the-row tt 1024 l₈ (named 1) (ν ∷ []) (take (lentOf n) r)
+        (behind (lentOf n) r) v₀ (first-room r (is .1 .0 .1))) $ await ! tt $ pick ! (λ γ. split ! $
         -- [what the row owns; the lender's part; the token of ν; what bytes owns; _14; …; the token]
         move ! (3 ∷ []) $ use1 W (‵ Own ⊛ ‵ Own) (shr-slice-copy 𝓤 H A W (named 0) κ u8 .twice y (v ∷ [])) $ split ! $
         move ! (34 ∷ []) $ split ! $ move ! (0 ∷ 6 ∷ []) $ join ! $ move ! (0 ∷ 4 ∷ 2 ∷ []) $ use3 W (raw (Write 𝓤 H A mem run .pre (to-write ν l₈ γ (take (lentOf n) r)))) (goes-write ν l₈ γ (take (lentOf n) r)) $
         -- [what `write_its` asks; …; what bytes owns; the lender's part; _14; …]
-        calls-at ! (fmOf 𝓤 H (W .laws) 𝓣) (Write 𝓤 H A mem run) known-write (to-write ν l₈ γ (take (lentOf n) r)) (and-then ! (load ! (from ! (stop !)) (look ! 29 refl)) (and-then ! (load ! (from ! (stop !)) (look ! 8 refl)) (and-then ! (load ! (from ! (stop !)) (look ! 4 refl)) (and-then ! (load ! (from ! (stop !)) (look ! 21 refl)) (and-then ! (load ! (from ! (stop !)) (look ! 19 refl)) (and-then ! (load ! (from ! (stop !)) (look ! 17 refl)) (no-more !))))))) (λ w.
-        use1 W (later (some (λ (t : Written). ((‵ (flft κ q) ⊛ (‵ (flft (ν ∷ []) fullShare) ⊛ ‵ ftrue)) ⊛ ‵ (Z.the-row .own t (w ∷ []))) ⊛ raw (ensured 𝓤 H A writes.ended (writes.clauses 𝓤 H A mem run) (κ, (ν ∷ [], tt)) (st, (d, (x ν l₈ γ (take (lentOf n) r), (offset, (width, (value, tt)))))) tt t)))) (id⊢ 𝓤 _) $ await ! tt $ pick ! (λ t.
+        calls-at ! (fmOf 𝓤 H (W .laws) 𝓣) (Write 𝓤 H A mem run) known-write (to-write ν l₈ γ (take (lentOf n) r))
+        (and-then ! (load ! (from ! (stop !)) (look ! 29 refl))
+        (and-then ! (load ! (from ! (stop !)) (look ! 8 refl))
+        (and-then ! (load ! (from ! (stop !)) (look ! 4 refl))
+        (and-then ! (load ! (from ! (stop !)) (look ! 21 refl))
+        (and-then ! (load ! (from ! (stop !)) (look ! 19 refl)) (and-then ! (load ! (from ! (stop !)) (look ! 17 refl)) (no-more !))))))) (λ w.
+        use1 W (later (some (λ (t : Written). ((‵ (flft κ q) ⊛ (‵ (flft (ν ∷ []) fullShare) ⊛ ‵ ftrue)) ⊛ ‵ (Z.the-row .own t (w ∷
+        []))) ⊛ raw (ensured 𝓤 H A writes.ended (writes.clauses 𝓤 H A mem run) (κ, (ν ∷ [], tt))
+        (st, (d, (x ν l₈ γ (take (lentOf n) r), (offset, (width, (value, tt)))))) tt t)))) (id⊢ 𝓤 _) $ await ! tt $ pick ! (λ t.
         -- what `write_its` ensures, at some last row
-        split ! $ move ! (1 ∷ []) $ use1 W (some (λ (ws : Unit {0} × (Unit {0} × (List ItsAction × (Unit {0} × (Unit {0} × (Unit {0} × Unit {0})))))). ‵ (lasts writes.ended (κ, (ν ∷ [], tt)) (st, (d, (x ν l₈ γ (take (lentOf n) r), (offset, (width, (value, tt)))))) ws) ⊛ raw (fact 𝓤 (Writes win (take (lentOf n) r) st offset width value t (ws .1 .1 .0))))) (id⊢ 𝓤 _) $ pick ! (λ ws.
+        split ! $ move ! (1 ∷ []) $ use1 W (some (λ (ws : Unit {0} × (Unit {0} × (List ItsAction × (Unit {0} × (Unit {0} × (Unit {0} ×
+        Unit {0})))))). ‵ (lasts writes.ended (κ, (ν ∷ [], tt)) (st, (d, (x ν l₈ γ (take (lentOf n) r), (offset, (width, (value, tt)))))) ws) ⊛
+        raw (fact 𝓤 (Writes win (take (lentOf n) r) st offset width value t (ws .1 .1 .0))))) (id⊢ 𝓤 _) $ pick ! (λ ws.
         split ! $ move ! (1 ∷ []) $ heard ! (Writes win (take (lentOf n) r) st offset width value t (ws .1 .1 .0)) (λ c. fsplit ! $ drop ! $ fsplit ! $ drop ! $ fsplit ! $ fsplit ! $ move ! (1 ∷ []) $ feqL ! (λ len.
         -- [the last row; …; the tokens and the answer; …; what bytes owns; the lender's part; _14; …]
         move ! (2 ∷ []) $ split ! $ move ! (1 ∷ []) $ peeks ! Z.the-row (Is Z.the-row) (shows 𝓤 H A Z.the-row) t (w ∷ []) (λ t-is.
         land ! (from ! (stop !)) (init ! 15 refl (W-typed 𝓤 H A W t _ t-is)) $
         -- the lifetime is ended, and the row comes back
         move ! (1 ∷ []) $ split ! $ move ! (1 ∷ []) $ split ! $ lft-end ! tt $ move ! (0 ∷ 8 ∷ 4 ∷ []) $
-        use3 W (later (some (λ (u : Val). ‵ (WholeAgain 𝓤 H A W R.the-row tt 1024 l₈ (ws .1 .1 .0 ++ behind (lentOf n) r) u)))) (array-back 𝓤 H A W R.the-row tt 1024 l₈ (ν ∷ []) γ (length (take (lentOf n) r)) (ws .1 .1 .0) (behind (lentOf n) r) len (lent-whole r (is .1 .0 .1) n (ws .1 .1 .0) len)) $ await ! tt $ pick ! (λ u. fsplit ! $
+        use3 W (later (some (λ (u : Val). ‵ (WholeAgain 𝓤 H A W R.the-row tt 1024 l₈ (ws .1 .1 .0 ++ behind (lentOf n) r) u))))
+        (array-back 𝓤 H A W R.the-row tt 1024 l₈ (ν ∷ []) γ (length (take (lentOf n) r)) (ws .1 .1 .0)
+        (behind (lentOf n) r) len (lent-whole r (is .1 .0 .1) n (ws .1 .1 .0) len)) $ await ! tt $ pick ! (λ u. fsplit ! $
         keep ! (1 ∷ 0 ∷ 3 ∷ 4 ∷ 7 ∷ 8 ∷ 9 ∷ 10 ∷ 11 ∷ 12 ∷ 13 ∷ 14 ∷ 15 ∷ 16 ∷ 17 ∷ 18 ∷ 19 ∷ 20 ∷ 21 ∷ 22 ∷ 23 ∷ 24 ∷ 25 ∷ 26 ∷ 27 ∷ 28 ∷ 29 ∷ 30 ∷ 31 ∷ 32 ∷ 33 ∷ 34 ∷ 35 ∷ 36 ∷ []) $
         peeks ! Row (Is Row) (shows 𝓤 H A Row) (ws .1 .1 .0 ++ behind (lentOf n) r) (u ∷ []) (λ zs-is. drop ! $
         -- [_8; the token; what the answer owns; what bytes owns; _14; …]: `with_row`
         assigns ! (of-opd ! (load ! (from ! (stop !)) (look ! 0 refl))) (from ! (stop !)) (store ! 10 refl (row-typed (ws .1 .1 .0 ++ behind (lentOf n) r) u zs-is)) $
         use0 W (raw (Beside 𝓤 H A mem run .pre (to-beside t w (ws .1 .1 .0 ++ behind (lentOf n) r) u))) (goes-beside t w (ws .1 .1 .0 ++ behind (lentOf n) r) u t-is zs-is) $
-        calls-at ! (fmOf 𝓤 H (W .laws) 𝓣) (Beside 𝓤 H A mem run) known-beside (to-beside t w (ws .1 .1 .0 ++ behind (lentOf n) r) u) (and-then ! (load ! (from ! (stop !)) (look ! 13 refl)) (and-then ! (load ! (from ! (stop !)) (look ! 11 refl)) (no-more !))) (λ w′.
-        use1 W (later (some (λ (o : WrittenRow). (‵ ftrue ⊛ ‵ (O.the-row .own o (w′ ∷ []))) ⊛ raw (ensured 𝓤 H A beside.ended (beside.clauses 𝓤 H A mem run) tt (t, (ws .1 .1 .0 ++ behind (lentOf n) r, tt)) tt o)))) (id⊢ 𝓤 _) $ await ! tt $ pick ! (λ o.
-        split ! $ move ! (1 ∷ []) $ use1 W (raw (fact 𝓤 (o ≡ besideRow t (ws .1 .1 .0 ++ behind (lentOf n) r)))) (beside-of 𝓤 H A mem run t (ws .1 .1 .0 ++ behind (lentOf n) r) o) $ heard ! (o ≡ besideRow t (ws .1 .1 .0 ++ behind (lentOf n) r)) (λ then. split ! $ drop ! $
+        calls-at ! (fmOf 𝓤 H (W .laws) 𝓣) (Beside 𝓤 H A mem run) known-beside (to-beside t w (ws .1 .1 .0 ++ behind (lentOf n) r) u)
+        (and-then ! (load ! (from ! (stop !)) (look ! 13 refl)) (and-then ! (load ! (from ! (stop !)) (look ! 11 refl)) (no-more !))) (λ w′.
+        use1 W (later (some (λ (o : WrittenRow). (‵ ftrue ⊛ ‵ (O.the-row .own o (w′ ∷
+        []))) ⊛ raw (ensured 𝓤 H A beside.ended (beside.clauses 𝓤 H A mem run) tt (t, (ws .1 .1 .0 ++ behind (lentOf n) r, tt)) tt o))))
+        (id⊢ 𝓤 _) $ await ! tt $ pick ! (λ o.
+        split ! $ move ! (1 ∷ []) $ use1 W (raw (fact 𝓤 (o ≡ besideRow t (ws .1 .1 .0 ++ behind (lentOf n) r))))
+        (beside-of 𝓤 H A mem run t (ws .1 .1 .0 ++ behind (lentOf n) r) o) $ heard ! (o ≡ besideRow t (ws .1 .1 .0 ++ behind (lentOf n) r))
+        (λ then. split ! $ drop ! $
         peeks ! O.the-row (Is O.the-row) (shows 𝓤 H A O.the-row) o (w′ ∷ []) (λ o-is. land ! (from ! (stop !)) (init ! 32 refl (O-typed 𝓤 H A W o _ o-is)) $
         -- [what the result owns; _8; the token; what the answer owns; what bytes owns; _14; …]
-        returns ! (look ! 32 refl) $ forget ! 1 refl $ forget ! 5 refl $ forget ! 7 refl $ forget ! 9 refl $ forget ! 11 refl $ forget ! 13 refl $ forget ! 15 refl $ forget ! 18 refl $ forget ! 20 refl $ forget ! 22 refl $ forget ! 24 refl $ forget ! 26 refl $ forget ! 28 refl $ forget ! 30 refl $ forget ! 32 refl $
-        move ! (32 ∷ 33 ∷ []) $ free1 ! $ move ! (30 ∷ 31 ∷ []) $ free1 ! $ move ! (28 ∷ 29 ∷ []) $ free1 ! $ move ! (26 ∷ 27 ∷ []) $ free1 ! $ move ! (24 ∷ 25 ∷ []) $ free1 ! $ move ! (22 ∷ 23 ∷ []) $ free1 ! $ move ! (20 ∷ 21 ∷ []) $ free1 ! $ move ! (18 ∷ 19 ∷ []) $ free1 ! $ move ! (1 ∷ 17 ∷ []) $ free1 ! $
+        returns ! (look ! 32 refl) $ forget ! 1 refl $ forget ! 5 refl $ forget ! 7 refl $ forget ! 9 refl $ forget ! 11 refl $ forget ! 13 refl $
+        forget ! 15 refl $ forget ! 18 refl $ forget ! 20 refl $ forget ! 22 refl $ forget ! 24 refl $ forget ! 26 refl $ forget ! 28 refl $
+        forget ! 30 refl $ forget ! 32 refl $
+        move ! (32 ∷ 33 ∷ []) $ free1 ! $ move ! (30 ∷ 31 ∷ []) $ free1 ! $ move ! (28 ∷ 29 ∷ []) $ free1 ! $ move ! (26 ∷ 27 ∷ []) $ free1 ! $
+        move ! (24 ∷ 25 ∷ []) $ free1 ! $ move ! (22 ∷ 23 ∷ []) $ free1 ! $ move ! (20 ∷ 21 ∷ []) $ free1 ! $ move ! (18 ∷ 19 ∷ []) $ free1 ! $
+        move ! (1 ∷ 17 ∷ []) $ free1 ! $
         move ! (14 ∷ 15 ∷ []) $ free1 ! $ move ! (12 ∷ 13 ∷ []) $ free1 ! $ move ! (10 ∷ 11 ∷ []) $ free1 ! $ move ! (8 ∷ 9 ∷ []) $ free1 ! $ move ! (6 ∷ 7 ∷ []) $ free1 ! $ move ! (4 ∷ 5 ∷ []) $ free1 ! $ free0 ! $
         keep ! (0 ∷ 1 ∷ 3 ∷ []) $ by ! (exits o w′ (ends-as win st n offset width value r (ws .1 .1 .0) t o (is .1 .0 .1) e c then)))))))))))))))))))))))))))))))))))))))
 
@@ -310,19 +356,36 @@ module _ {M : Type 1} (𝓤 : URA M) (H : Heap 𝓤) (A : Atoms 𝓤) (W : Given
     walk-code = subst (λ (g : Fn). ent 𝓤 (onEntry 𝓤 H A f.signature (κ, tt) (q, tt) a vals) (WpFn 𝓤 H (𝓣 .C) (𝓣 .Λ) g (vS st ∷ vint w64 address ∷ v ∷ vint w64 n ∷ vint w64 offset ∷ vint w8 width ∷ vint w64 value ∷ []) Post)) boxed-is walk
 
 module _ {M : Type 1} (𝓤 : URA M) (H : Heap 𝓤) (A : Atoms 𝓤) (W : Given 𝓤 H A) (mem : Memory → SProp 𝓤) (run : Routine → Fun 𝓤) (𝓣 : Tables 𝓤 H)
-    (known-fresh : Triple 𝓤 (𝓣 .C #its·fresh-row) (Fresh 𝓤 H A mem run)) (known-lent-of : Triple 𝓤 (𝓣 .C #its·lent-of) (LentOf 𝓤 H A mem run)) (known-write : Triple 𝓤 (𝓣 .C #its·write-its) (Write 𝓤 H A mem run)) (known-beside : Triple 𝓤 (𝓣 .C #its·with-row) (Beside 𝓤 H A mem run)) where
+    (known-fresh : Triple 𝓤 (𝓣 .C #its·fresh-row) (Fresh 𝓤 H A mem run)) (known-lent-of : Triple 𝓤 (𝓣 .C #its·lent-of) (LentOf 𝓤 H A mem run))
+    (known-write : Triple 𝓤 (𝓣 .C #its·write-its) (Write 𝓤 H A mem run)) (known-beside : Triple 𝓤 (𝓣 .C #its·with-row) (Beside 𝓤 H A mem run)) where
   write-lent-walks : Walks 𝓤 H A f.ended stayed (WpFn 𝓤 H (𝓣 .C) (𝓣 .Λ) code.function) (f.clauses 𝓤 H A mem run)
   unfolding vS
   write-lent-walks = walked 𝓤 H A f.ended stayed (f.clauses 𝓤 H A mem run) (WpFn 𝓤 H (𝓣 .C) (𝓣 .Λ) code.function)
       (λ κs. (LL.vals S.the-type S′.the-laws, (uint-vals w64, (slice-vals, (uint-vals w64, (uint-vals w64, (uint-vals w8, (uint-vals w64, tt))))))))
       (λ κs. (LL.tells S.the-type S′.the-laws, (uint-tells w64, (shr-slice-tells (named 0) (κs .0) u8, (uint-tells w64, (uint-tells w64, (uint-tells w8, (uint-tells w64, tt))))))))
       (λ κs qs bounds a g are. via 𝓤 _ (fst∗ 𝓤 _ (emp 𝓤))
-      (walk-code 𝓤 H A W mem run (κs .0) (qs .0) (a .1 .1 .0) (a .0) (a .1 .0) (a .1 .1 .1 .0) (a .1 .1 .1 .1 .0) (a .1 .1 .1 .1 .1 .0) (a .1 .1 .1 .1 .1 .1 .0) (are .0) (are .1 .1 .0) (are .1 .0 .1) (are .1 .1 .1 .0 .1) (are .1 .1 .1 .1 .0 .1) (are .1 .1 .1 .1 .1 .0 .1) (are .1 .1 .1 .1 .1 .1 .0 .1) 𝓣 known-fresh known-lent-of known-write known-beside))
+      (walk-code 𝓤 H A W mem run (κs .0) (qs .0) (a .1 .1 .0) (a .0) (a .1 .0) (a .1 .1 .1 .0) (a .1 .1 .1 .1 .0) (a .1 .1 .1 .1 .1 .0)
+      (a .1 .1 .1 .1 .1 .1 .0) (are .0) (are .1 .1 .0) (are .1 .0 .1) (are .1 .1 .1 .0 .1) (are .1 .1 .1 .1 .0 .1) (are .1 .1 .1 .1 .1 .0 .1)
+      (are .1 .1 .1 .1 .1 .1 .0 .1) 𝓣 known-fresh known-lent-of known-write known-beside))
 
   write-lent-meets : Meets 𝓤 H A f.signature (WpFn 𝓤 H (𝓣 .C) (𝓣 .Λ) code.function) (f.spec 𝓤 H A mem run)
   write-lent-meets =
-      walk-meets 𝓤 H A f.ended stayed W
-      (goes-none 𝓤 H A W 1 (λ _. S.the-row) yes (λ κs x f. refl), (goes-none 𝓤 H A W 1 (λ _. u64) yes (λ κs x f. refl), (goes-none-slice 𝓤 H A W 1 (0 ∷ []) tt (plain (λ _. u8)) yes, (goes-none 𝓤 H A W 1 (λ _. usize) yes (λ κs x f. refl), (goes-none 𝓤 H A W 1 (λ _. u64) yes (λ κs x f. refl), (goes-none 𝓤 H A W 1 (λ _. u8) yes (λ κs x f. refl), (goes-none 𝓤 H A W 1 (λ _. u64) yes (λ κs x f. refl), tt)))))))
+      walk-meets 𝓤 H A f.ended stayed W (
+        goes-none 𝓤 H A W 1 (λ _. S.the-row) yes (λ κs x f. refl),
+        (
+          goes-none 𝓤 H A W 1 (λ _. u64) yes (λ κs x f. refl),
+          (
+            goes-none-slice 𝓤 H A W 1 (0 ∷ []) tt (plain (λ _. u8)) yes,
+            (
+              goes-none 𝓤 H A W 1 (λ _. usize) yes (λ κs x f. refl),
+              (
+                goes-none 𝓤 H A W 1 (λ _. u64) yes (λ κs x f. refl),
+                (goes-none 𝓤 H A W 1 (λ _. u8) yes (λ κs x f. refl), (goes-none 𝓤 H A W 1 (λ _. u64) yes (λ κs x f. refl), tt)),
+              ),
+            ),
+          ),
+        ),
+      )
       (f.clauses 𝓤 H A mem run) (WpFn 𝓤 H (𝓣 .C) (𝓣 .Λ) code.function) (WpFn-mono 𝓤 H (W .laws) 𝓣 code.function) write-lent-walks
 
 pub write-lent-spec : {M : Type 1} → stated.statement M

@@ -1,12 +1,11 @@
 -- `tables::drop_translations_in` meets its contract. The loop's invariant is what a drop knows before record `i`.
 -- Assumes nothing.
 use Prim.Native.Nat.{_-_}
-use mathlib.Core.Path.{refl, sym}
 use mathlib.Core.Logic.{⊎-elim}
 use borrow.Author.Needs.{needs}
 use Rattle.model.specs.Keys.{noTranslation}
 use Rattle.model.specs.Step.{pairIn}
-use Rattle.model.proofs.TableLoops.{Dropped, dropping, drop-miss}
+use Rattle.model.proofs.TableLoops.{Dropped, dropping}
 use Rattle.tables.proofs.drop_translations_in.Statement.{statement}
 use Rattle.tables.proofs.drop_translations_in.Tie as tie
 
@@ -20,11 +19,7 @@ loop-holds : tie.Need-loop-holds Inv-loop μ-loop
 loop-holds c = search (needs, dropping)
 
 loop-again : tie.Need-loop-again Inv-loop μ-loop
-loop-again c =
-    ⊎-elim (λ w. search (needs, dropping))
-    (⊎-elim (λ w. search (needs, dropping))
-    (λ w. drop-miss (c .before .before .before .loop .inv) noTranslation (c .before .before .loop-test .taken) (sym (rw (w .0 .left))) refl (w .1)))
-    (c .if1 .came)
+loop-again c = ⊎-elim (λ w. search (needs, dropping)) (λ w. search (needs, dropping)) (c .if1 .came)
 
 returns : tie.Need-returns Inv-loop μ-loop
 returns c = search (needs, dropping)

@@ -1,36 +1,15 @@
--- `tables::place_of_pair` meets its contract. The loop's invariant is what a search knows before record `i`.
+-- `tables::place_of_pair` meets its contract: the record's own place, or that of the first free one.
 -- Assumes nothing.
-use Prim.Native.Nat.{_-_}
 use borrow.Author.Needs.{needs}
-use Rattle.model.specs.Keys.{isPair}
-use Rattle.model.proofs.TableLoops.{Searched, searching}
+use Rattle.model.proofs.TableLoops.{place-held, place-new}
 use Rattle.tables.proofs.place_of_pair.Statement.{statement}
 use Rattle.tables.proofs.place_of_pair.Tie as tie
 
-abbrev Inv-loop : tie.InvT-loop
-Inv-loop device event translations free₀ i₀ free i = Searched 256 (isPair device event) (λ r. r .used) translations i free
+returns : tie.Need-returns
+returns c = search (needs, place-held)
 
-abbrev μ-loop : tie.MeasureT-loop
-μ-loop device event translations free₀ i₀ free i = 256 - i
+returns-2 : tie.Need-returns-2
+returns-2 c = search (needs, place-new)
 
-loop-holds : tie.Need-loop-holds Inv-loop μ-loop
-loop-holds c = search (needs, searching)
-
-loop-again : tie.Need-loop-again Inv-loop μ-loop
-loop-again c = search (needs, searching)
-
-returns : tie.Need-returns Inv-loop μ-loop
-returns c = search (needs, searching)
-
-returns-2 : tie.Need-returns-2 Inv-loop μ-loop
-returns-2 c = search (needs, searching)
-
--- the needs in between: the index, two calls, the next index, the measure
 pub place-of-pair-spec : {M : Type 1} → statement M
-place-of-pair-spec =
-    tie.close
-    (tie.spec Inv-loop μ-loop loop-holds
-    (λ c. search needs) (λ c. search needs)
-    (λ c κs. search needs) (λ c κs. search needs)
-    (λ c. search needs) (λ c. search needs)
-    loop-again returns returns-2)
+place-of-pair-spec = tie.close (tie.spec (λ c κs. search needs) returns (λ c κs. search needs) returns-2)

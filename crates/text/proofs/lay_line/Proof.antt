@@ -7,12 +7,6 @@ use Rattle.text.proofs.WholeLine.{line-length, line-laid}
 use Rattle.text.proofs.lay_line.Statement.{statement}
 use Rattle.text.proofs.lay_line.Tie as tie
 
-add-second : tie.Need-add-second
-add-second c = search needs
-
-add-from : tie.Need-add-from
-add-from c = search needs
-
 slice-write-out : tie.Need-slice-write-out
 slice-write-out c = omega (arith, line-length (c .before .before .args .line))
 
@@ -44,11 +38,4 @@ pub lay-line-spec : {M : Type 1} → statement M
 lay-line-spec =
     tie.close
     (tie.spec
-    add-second
-    add-from
-    slice-write-out
-    slice-write-out-2
-    lay-numbers-requires
-    slice-write-out-3
-    same-length
-    returns)
+    (λ c. search needs) (λ c. search needs) slice-write-out slice-write-out-2 lay-numbers-requires slice-write-out-3 same-length returns)

@@ -9,22 +9,10 @@ use Rattle.text.proofs.Spaced.{number-laid}
 use Rattle.text.proofs.lay_number.Statement.{statement}
 use Rattle.text.proofs.lay_number.Tie as tie
 
-digit-count-requires : tie.Need-digit-count-requires
-digit-count-requires c κs = search needs
-
-slice-write-out : tie.Need-slice-write-out
-slice-write-out c = search needs
-
-add-after : tie.Need-add-after
-add-after c = search needs
-
 lay-digits-requires : tie.Need-lay-digits-requires
 lay-digits-requires c κs =
     let s = c .before .before .before in
     rw length-set (omega (arith, decimal-length (s .args .n)))
-
-add-result : tie.Need-add-result
-add-result c = search needs
 
 same-length : tie.Need-same-length
 same-length c =
@@ -43,10 +31,4 @@ pub lay-number-spec : {M : Type 1} → statement M
 lay-number-spec =
     tie.close
     (tie.spec
-    digit-count-requires
-    slice-write-out
-    add-after
-    lay-digits-requires
-    add-result
-    same-length
-    returns)
+    (λ c κs. search needs) (λ c. search needs) (λ c. search needs) lay-digits-requires (λ c. search needs) same-length returns)

@@ -12,7 +12,8 @@ use Rattle.text.proofs.lay_numbers.Statement.{statement}
 use Rattle.text.proofs.lay_numbers.Tie as tie
 
 abbrev Inv-loop : tie.InvT-loop
-Inv-loop out₀ at count numbers place₀ i₀ out place i = (laidAt out place (left i count numbers) ≡ laidAt out₀ at (left 0 count numbers)) × (place + length (left i count numbers) ≡ at + length (left 0 count numbers)) × (length out ≡ length out₀) × (i ≤ 5)
+Inv-loop out₀ at count numbers place₀ i₀ out place i = (laidAt out place (left i count numbers) ≡ laidAt out₀ at (left 0 count numbers)) ×
+    (place + length (left i count numbers) ≡ at + length (left 0 count numbers)) × (length out ≡ length out₀) × (i ≤ 5)
 
 abbrev μ-loop : tie.MeasureT-loop
 μ-loop out₀ at count numbers place₀ i₀ out place i = 5 - i

@@ -12,31 +12,10 @@ use Rattle.text.proofs.put_line.Tie as tie
 returns : tie.Need-returns
 returns c = let a = c .before .before .args in nothing (a .out .now) (a .laid) (lineOf (a .line)) (c .if1 .taken)
 
-numbers-length-requires : tie.Need-numbers-length-requires
-numbers-length-requires c κs = search needs
-
-add-n : tie.Need-add-n
-add-n c = search needs
-
-room-requires : tie.Need-room-requires
-room-requires c κs = search needs
-
-full-at-requires : tie.Need-full-at-requires
-full-at-requires c κs = search needs
-
-same-length : tie.Need-same-length
-same-length c = search needs
-
 returns-2 : tie.Need-returns-2
 returns-2 c =
     let a = c .before .before .before .before .before .before .before .before .args in
     rw (c .full-at .ensures) (over (a .out .now) (a .laid) (lineOf (a .line)) (c .before .before .before .before .before .before .if1 .left) (omega (arith, line-length (a .line))))
-
-full-at-requires-2 : tie.Need-full-at-requires-2
-full-at-requires-2 c κs = search needs
-
-same-length-2 : tie.Need-same-length-2
-same-length-2 c = search needs
 
 returns-3 : tie.Need-returns-3
 returns-3 c =
@@ -45,12 +24,6 @@ returns-3 c =
 
 lay-line-requires : tie.Need-lay-line-requires
 lay-line-requires c κs = omega (arith, line-length (c .before .before .before .before .before .before .before .before .before .args .line))
-
-add-next : tie.Need-add-next
-add-next c = search needs
-
-same-length-3 : tie.Need-same-length-3
-same-length-3 c = search needs
 
 returns-4 : tie.Need-returns-4
 returns-4 c =
@@ -71,17 +44,5 @@ pub put-line-spec : {M : Type 1} → statement M
 put-line-spec =
     tie.close
     (tie.spec
-    returns
-    numbers-length-requires
-    add-n
-    room-requires
-    full-at-requires
-    same-length
-    returns-2
-    full-at-requires-2
-    same-length-2
-    returns-3
-    lay-line-requires
-    add-next
-    same-length-3
-    returns-4)
+    returns (λ c κs. search needs) (λ c. search needs) (λ c κs. search needs) (λ c κs. search needs) (λ c. search needs) returns-2
+    (λ c κs. search needs) (λ c. search needs) returns-3 lay-line-requires (λ c. search needs) (λ c. search needs) returns-4)

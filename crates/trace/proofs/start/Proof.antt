@@ -4,11 +4,8 @@ use borrow.Author.Needs.{needs}
 use Rattle.trace.proofs.start.Statement.{statement}
 use Rattle.trace.proofs.start.Tie as tie
 
-no-unit-requires : tie.Need-no-unit-requires
-no-unit-requires c κs = search needs
-
 returns : tie.Need-returns
 returns c = rw (c .no-unit .ensures)
 
 pub start-spec : {M : Type 1} → statement M
-start-spec = tie.close (tie.spec no-unit-requires returns)
+start-spec = tie.close (tie.spec (λ c κs. search needs) returns)

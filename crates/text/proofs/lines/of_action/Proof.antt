@@ -6,18 +6,9 @@ use Rattle.text.specs.Laying.{lineOf}
 use Rattle.text.proofs.lines.of_action.Statement.{statement}
 use Rattle.text.proofs.lines.of_action.Tie as tie
 
-cast-p : tie.Need-cast-p
-cast-p c = search needs
-
-cast-l : tie.Need-cast-l
-cast-l c = search needs
-
-one-if-requires : tie.Need-one-if-requires
-one-if-requires c κs = search needs
-
 returns : tie.Need-returns
 unfolding line lineOf
 returns c = rw (c .one-if .ensures)
 
 pub of-action-spec : {M : Type 1} → statement M
-of-action-spec = tie.close (tie.spec cast-p cast-l one-if-requires returns)
+of-action-spec = tie.close (tie.spec (λ c. search needs) (λ c. search needs) (λ c κs. search needs) returns)

@@ -6,12 +6,9 @@ use Rattle.text.specs.Laying.{lineOf}
 use Rattle.text.proofs.lines.of_configuration.Statement.{statement}
 use Rattle.text.proofs.lines.of_configuration.Tie as tie
 
-verdict-number-requires : tie.Need-verdict-number-requires
-verdict-number-requires c κs = search needs
-
 returns : tie.Need-returns
 unfolding line lineOf
 returns c = rw (c .verdict-number .ensures)
 
 pub of-configuration-spec : {M : Type 1} → statement M
-of-configuration-spec = tie.close (tie.spec verdict-number-requires returns)
+of-configuration-spec = tie.close (tie.spec (λ c κs. search needs) returns)

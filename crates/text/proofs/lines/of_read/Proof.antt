@@ -6,12 +6,9 @@ use Rattle.text.specs.Laying.{lineOf}
 use Rattle.text.proofs.lines.of_read.Statement.{statement}
 use Rattle.text.proofs.lines.of_read.Tie as tie
 
-read-numbers-requires : tie.Need-read-numbers-requires
-read-numbers-requires c κs = search needs
-
 returns : tie.Need-returns
 unfolding line lineOf
 returns c = rw (c .read-numbers .ensures)
 
 pub of-read-spec : {M : Type 1} → statement M
-of-read-spec = tie.close (tie.spec read-numbers-requires returns)
+of-read-spec = tie.close (tie.spec (λ c κs. search needs) returns)

@@ -6,12 +6,9 @@ use Rattle.text.specs.Laying.{lineOf}
 use Rattle.text.proofs.lines.of_translation.Statement.{statement}
 use Rattle.text.proofs.lines.of_translation.Tie as tie
 
-translate-numbers-requires : tie.Need-translate-numbers-requires
-translate-numbers-requires c κs = search needs
-
 returns : tie.Need-returns
 unfolding line lineOf
 returns c = rw (c .translate-numbers .ensures)
 
 pub of-translation-spec : {M : Type 1} → statement M
-of-translation-spec = tie.close (tie.spec translate-numbers-requires returns)
+of-translation-spec = tie.close (tie.spec (λ c κs. search needs) returns)

@@ -6,12 +6,9 @@ use Rattle.text.specs.Laying.{lineOf}
 use Rattle.text.proofs.lines.of_write.Statement.{statement}
 use Rattle.text.proofs.lines.of_write.Tie as tie
 
-write-numbers-requires : tie.Need-write-numbers-requires
-write-numbers-requires c κs = search needs
-
 returns : tie.Need-returns
 unfolding line lineOf
 returns c = rw (c .write-numbers .ensures)
 
 pub of-write-spec : {M : Type 1} → statement M
-of-write-spec = tie.close (tie.spec write-numbers-requires returns)
+of-write-spec = tie.close (tie.spec (λ c κs. search needs) returns)

@@ -13,24 +13,12 @@ returns : tie.Need-returns
 unfolding markOf
 returns c = let l = c .before .before .args .bytes .now in rw (marked-not "CF" l (c .if1 .taken), marked-not "GM" l (c .if1 .taken), marked-not "RD" l (c .if1 .taken), marked-not "WR" l (c .if1 .taken), marked-not "TR" l (c .if1 .taken))
 
-shared-slice-read-a : tie.Need-shared-slice-read-a
-shared-slice-read-a c = search needs
-
-shared-slice-read-b : tie.Need-shared-slice-read-b
-shared-slice-read-b c = search needs
-
-begins-requires : tie.Need-begins-requires
-begins-requires c κs = search needs
-
 returns-2 : tie.Need-returns-2
 unfolding markOf
 returns-2 c =
     let l = c .before .before .before .before .before .before .args .bytes .now in
     let h : 2 ≤ length l = c .before .before .before .before .if1 .left in
     rw (marked-is "CF" l _ true h (c .before .begins .ensures) (c .if2 .taken))
-
-begins-requires-2 : tie.Need-begins-requires-2
-begins-requires-2 c κs = search needs
 
 returns-3 : tie.Need-returns-3
 unfolding markOf
@@ -41,9 +29,6 @@ returns-3 c =
       marked-is "CF" l _ false h (c .before .before .before .begins .ensures) (c .before .before .if2 .left),
       marked-is "GM" l _ true h (c .before .begins2 .ensures) (c .if3 .taken),
     )
-
-begins-requires-3 : tie.Need-begins-requires-3
-begins-requires-3 c κs = search needs
 
 returns-4 : tie.Need-returns-4
 unfolding markOf
@@ -56,9 +41,6 @@ returns-4 c =
       marked-is "RD" l _ true h (c .before .begins3 .ensures) (c .if4 .taken),
     )
 
-begins-requires-4 : tie.Need-begins-requires-4
-begins-requires-4 c κs = search needs
-
 returns-5 : tie.Need-returns-5
 unfolding markOf
 returns-5 c =
@@ -70,9 +52,6 @@ returns-5 c =
       marked-is "RD" l _ false h (c .before .before .before .begins3 .ensures) (c .before .before .if4 .left),
       marked-is "WR" l _ true h (c .before .begins4 .ensures) (c .if5 .taken),
     )
-
-begins-requires-5 : tie.Need-begins-requires-5
-begins-requires-5 c κs = search needs
 
 returns-6 : tie.Need-returns-6
 unfolding markOf
@@ -104,17 +83,5 @@ pub mark-at-spec : {M : Type 1} → statement M
 mark-at-spec =
     tie.close
     (tie.spec
-    returns
-    shared-slice-read-a
-    shared-slice-read-b
-    begins-requires
-    returns-2
-    begins-requires-2
-    returns-3
-    begins-requires-3
-    returns-4
-    begins-requires-4
-    returns-5
-    begins-requires-5
-    returns-6
-    returns-7)
+    returns (λ c. search needs) (λ c. search needs) (λ c κs. search needs) returns-2 (λ c κs. search needs) returns-3 (λ c κs. search needs)
+    returns-4 (λ c κs. search needs) returns-5 (λ c κs. search needs) returns-6 returns-7)

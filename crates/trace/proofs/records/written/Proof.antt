@@ -10,54 +10,15 @@ use Rattle.trace.proofs.WriteRecord.{carries}
 use Rattle.trace.proofs.records.written.Statement.{statement}
 use Rattle.trace.proofs.records.written.Tie as tie
 
-broken-off-requires : tie.Need-broken-off-requires
-broken-off-requires c κs = search needs
-
-same-length : tie.Need-same-length
-same-length c = search needs
-
 returns : tie.Need-returns
 returns c =
     let a = c .before .before .before .before .before .before .before .before .args in
     rw (wr-short (a .bytes .now) (c .before .before .before .before .if1 .taken)) (c .before .before .broken-off .ensures)
 
-number-at-requires : tie.Need-number-at-requires
-number-at-requires c κs = search needs
-
-number-at-requires-2 : tie.Need-number-at-requires-2
-number-at-requires-2 c κs = search needs
-
-cast-width : tie.Need-cast-width
-cast-width c = search needs
-
-number-at-requires-3 : tie.Need-number-at-requires-3
-number-at-requires-3 c κs = search needs
-
-add-end : tie.Need-add-end
-add-end c = search needs
-
-sub-window : tie.Need-sub-window
-sub-window c = search needs
-
-part-window-start : tie.Need-part-window-start
-part-window-start c = search needs
-
-part-window-end : tie.Need-part-window-end
-part-window-end c = search needs
-
-write-lent-requires : tie.Need-write-lent-requires
-write-lent-requires c κs = search needs
-
-put-written-requires : tie.Need-put-written-requires
-put-written-requires c κs = search needs
-
 add-r : tie.Need-add-r
 add-r c =
     let s = c .before .before .before .before .before .before .before .before .before .before .before .before .before .before .before .before .before .before .before in
     omega (arith, s .pre .reads, s .good .0 .0, c .before .before .before .before .before .before .before .before .before .before .before .before .before .before .before .if1 .left)
-
-same-length-2 : tie.Need-same-length-2
-same-length-2 c = search needs
 
 returns-2 : tie.Need-returns-2
 returns-2 c =
@@ -92,19 +53,6 @@ pub written-spec : {M : Type 1} → statement M
 written-spec =
     tie.close
     (tie.spec
-    broken-off-requires
-    same-length
-    returns
-    number-at-requires
-    number-at-requires-2
-    cast-width
-    number-at-requires-3
-    add-end
-    sub-window
-    part-window-start
-    part-window-end
-    write-lent-requires
-    put-written-requires
-    add-r
-    same-length-2
-    returns-2)
+    (λ c κs. search needs) (λ c. search needs) returns (λ c κs. search needs) (λ c κs. search needs) (λ c. search needs) (λ c κs. search needs)
+    (λ c. search needs) (λ c. search needs) (λ c. search needs) (λ c. search needs) (λ c κs. search needs) (λ c κs. search needs) add-r
+    (λ c. search needs) returns-2)

@@ -1,0 +1,34 @@
+-- `command::pairs::discard` meets its contract: a pair that is mapped is dropped.
+-- Assumes nothing.
+use mathlib.Core.Path.{ap, _∙_}
+use borrow.Author.Needs.{needs}
+use Rattle.model.specs.With.{withTranslations}
+use Rattle.model.proofs.CommandLaws.{both-are, nothing-to-drop, pair-drops}
+use Rattle.command.proofs.Sizes.{sized}
+use Rattle.command.proofs.pairs.discard.Statement.{statement}
+use Rattle.command.proofs.pairs.discard.Tie as tie
+
+returns : tie.Need-returns
+returns c =
+    let i = c .before in
+    let p = i .before in
+    let s = p .before .before in
+    let a = s .args in
+    c .carried .ensures
+    ∙ both-are _ _ (nothing-to-drop (a .unit) (sized (a .unit) (s .good .0)) (a .device) (a .event) (p .find-pair .ensures) (i .if1 .taken))
+
+returns-2 : tie.Need-returns-2
+returns-2 c =
+    let d = c .before in
+    let i = d .before in
+    let p = i .before in
+    let s = p .before .before in
+    let a = s .args in
+    c .carried2 .ensures
+    ∙ both-are _ _
+    (pair-drops (a .unit) (sized (a .unit) (s .good .0)) (a .device) (a .event) (p .find-pair .ensures) (i .if1 .left) (ap (withTranslations (a .unit)) (d .drop-pairs .ensures)))
+
+pub discard-spec : {M : Type 1} → statement M
+discard-spec =
+    tie.close
+    (tie.spec (λ c κs. search needs) (λ c κs. search needs) returns (λ c κs. search needs) (λ c κs. search needs) returns-2)

@@ -1,0 +1,123 @@
+// The commands that map: MAPD, MAPC, MAPTI and MAPI.
+use model::Applied;
+use model::CollectionId;
+use model::EventId;
+use model::Executed;
+use model::GicVcpuId;
+use model::ItsCollection;
+use model::ItsConfig;
+use model::ItsDevice;
+use model::ItsDeviceId;
+use model::ItsState;
+use model::LpiId;
+use model::Refusal;
+use model::Translation;
+ghost use mathlib.Core.Path.{_≡_};
+ghost use Rattle.model.specs.declared.Command.the-variants.{Mapd, Mapc, Mapti};
+ghost use Rattle.model.specs.Step.{lpiInRange, execution};
+
+pub fn map_device(unit: ItsState, device: ItsDeviceId, event_bits: u8, valid: bool) -> Applied
+    ensures { λ r. ⌜ r ≡ execution unit (Mapd device «event_bits» valid) ⌝ }
+{
+    let devices = unit.devices;
+    let mut next = unit;
+    if !valid {
+        let translations = unit.translations;
+        next.devices = tables::drop_devices(devices, device);
+        next.translations = tables::drop_translations_of(translations, device);
+        return crate::carried(next, Executed::Done);
+    }
+    let at = tables::place_of_device(devices, device);
+    if 32 <= at {
+        return crate::carried(unit, Executed::NotDone(Refusal::TableFull));
+    }
+    let r = ItsDevice {
+        device: device,
+        event_bits: event_bits,
+        used: true,
+    };
+    next.devices[at] = r;
+    crate::carried(next, Executed::Done)
+}
+
+pub fn map_collection(
+    unit: ItsState,
+    collection: CollectionId,
+    target: GicVcpuId,
+    valid: bool,
+) -> Applied
+    ensures { λ r. ⌜ r ≡ execution unit (Mapc collection target valid) ⌝ }
+{
+    let collections = unit.collections;
+    let mut next = unit;
+    if !valid {
+        let translations = unit.translations;
+        next.collections = tables::drop_collections(collections, collection);
+        next.translations = tables::drop_translations_in(translations, collection);
+        return crate::carried(next, Executed::Done);
+    }
+    if !registers::sizes::is_listed(unit.config, target) {
+        return crate::carried(unit, Executed::NotDone(Refusal::ProcessorUnlisted));
+    }
+    let at = tables::place_of_collection(collections, collection);
+    if 32 <= at {
+        return crate::carried(unit, Executed::NotDone(Refusal::TableFull));
+    }
+    let r = ItsCollection {
+        collection: collection,
+        target: target,
+        used: true,
+    };
+    next.collections[at] = r;
+    crate::carried(next, Executed::Done)
+}
+
+// LPI in 8192..limit.
+fn lpi_in_range(config: ItsConfig, lpi: LpiId) -> bool
+    ensures { λ r. ⌜ r ≡ lpiInRange config lpi ⌝ }
+{
+    (8192 <= lpi.0) & (lpi.0 <= config.lpi_limit)
+}
+
+pub fn map_translation(
+    unit: ItsState,
+    device: ItsDeviceId,
+    event: EventId,
+    lpi: LpiId,
+    collection: CollectionId,
+) -> Applied
+    ensures { λ r. ⌜ r ≡ execution unit (Mapti device event lpi collection) ⌝ }
+{
+    if !lpi_in_range(unit.config, lpi) {
+        return crate::carried(unit, Executed::NotDone(Refusal::LpiOutOfRange));
+    }
+    let devices = unit.devices;
+    let d = tables::find_device(devices, device);
+    if 32 <= d {
+        return crate::carried(unit, Executed::NotDone(Refusal::DeviceUnmapped));
+    }
+    let holder = tables::device_at(devices, d);
+    if !words::event_below(holder.event_bits, event) {
+        return crate::carried(unit, Executed::NotDone(Refusal::EventBeyondBits));
+    }
+    let collections = unit.collections;
+    let c = tables::find_collection(collections, collection);
+    if 32 <= c {
+        return crate::carried(unit, Executed::NotDone(Refusal::CollectionUnmapped));
+    }
+    let translations = unit.translations;
+    let at = tables::place_of_pair(translations, device, event);
+    if 256 <= at {
+        return crate::carried(unit, Executed::NotDone(Refusal::TableFull));
+    }
+    let r = Translation {
+        device: device,
+        event: event,
+        lpi: lpi,
+        collection: collection,
+        used: true,
+    };
+    let mut next = unit;
+    next.translations[at] = r;
+    crate::carried(next, Executed::Done)
+}

@@ -1,0 +1,190 @@
+-- The turns of a write add up to the model's run: what each part of a turn comes to, and what is known between two turns.
+-- Assumes nothing.
+use Prim.Native.Nat.{ℕ, _+_, _<_, _≤_}
+use native.Mathlib.Omega.{arith}
+use mathlib.Core.Path.{_≡_, refl, sym, ap, ap₂, subst, _∙_}
+use mathlib.Core.Bool.{true, false}
+use mathlib.Core.List.{List, [], _∷_, _++_}
+use lib.Dec.{leb}
+use lib.ListN.{length, set, drop, length-set}
+use borrow.Author.Tests.{ltb-true, ltb-false, le-leb, lt-leb}
+use Rattle.model.specs.declared.ItsState.{ItsState}
+use Rattle.model.specs.declared.ItsAction.{ItsAction}
+use Rattle.model.specs.declared.Refusal.the-variants.{BudgetExceeded}
+use Rattle.model.specs.Choose.{if_then_else_, _or_then_}
+use Rattle.model.specs.Queue.{Window, Turn, turn, waiting, commandAddress, run}
+use Rattle.model.specs.Entry.{rowAfter, afterRun}
+use Rattle.model.proofs.Cases.{cases, never}
+use Rattle.model.proofs.Answers.{both-hold, second-fails, first-fails}
+use Rattle.model.proofs.RowLaws.{rowOf, row-long, rowPast, row-on, row-same}
+use Rattle.answers.specs.declared.Turned.{Turned}
+use Rattle.answers.specs.declared.Counts.{Counts}
+use Rattle.answers.specs.Counting.{handedBy, acts, begun, halted, countedOn}
+use Rattle.answers.proofs.Turning.{Turning, one-by}
+use Rattle.answers.proofs.Counting.{Counting, begins, stands, fits, room, turns, fewer, unit-ends, actions-end, answer-ends}
+use Rattle.decoding.specs.declared.CommandRead.{CommandRead}
+use Rattle.decoding.specs.Reading.{commandRead, turnRead}
+use Rattle.decoding.proofs.Turning.{turn-reads}
+use Rattle.queue.specs.declared.Progress.{Progress}
+use Rattle.queue.specs.Ongoing.{Ready, Begun, noAction, firstOf, progressOf, firstCounts, turnedOn, turnOf, finishOf, endOf}
+
+-- The counts before the first turn.
+module _ (u : ItsState) where
+  pub counts-off : u .registers .enabled ≡ false → begun 0 ≡ firstCounts u
+  unfolding firstCounts
+  counts-off h = sym (first-fails (u .registers .enabled) (leb (waiting (u .registers)) (u .config .«command_budget»)) (halted BudgetExceeded) (begun (waiting (u .registers))) (begun 0) h)
+
+  module _ (on : u .registers .enabled ≡ true) {n : ℕ} (count : n ≡ waiting (u .registers)) where
+    pub counts-over : u .config .«command_budget» < n → halted BudgetExceeded ≡ firstCounts u
+    unfolding firstCounts
+    counts-over h = sym (second-fails (u .registers .enabled) _ _ _ _ on (lt-leb (waiting (u .registers)) (u .config .«command_budget») (omega arith)))
+
+    pub counts-on : n ≤ u .config .«command_budget» → begun n ≡ firstCounts u
+    unfolding firstCounts
+    counts-on h = ap begun count ∙ sym (both-hold (u .registers .enabled) _ _ _ _ on (le-leb (waiting (u .registers)) (u .config .«command_budget») (omega arith)))
+
+-- A turn, from the code's account of it.
+pub moves-on : (t : Progress) {y : Turn} {v : ItsState} {turned : Turned} {handed : List ItsAction} → Turning (t .unit) y v turned handed →
+    {n : Counts} → n ≡ countedOn (t .counts) turned → {r : Progress} → r ≡ progressOf v n handed (t .counts .actions) → r ≡ turnedOn t y
+unfolding turnedOn
+moves-on t k c e = e ∙ rw (k .unit, c, k .told, k .actions) refl
+
+-- Between two turns of a write that began as t₀ with the row row₀: t is the write now, and row the row.
+
+-- the row after the turn that led to t
+abbrev pub laid : Progress → List ItsAction → List ItsAction
+laid t row = if t .acted then set row (t .at) (t .action) else row
+
+module _ (w : Window) (t₀ : Progress) (row₀ : List ItsAction) where
+  pub record Counted (t : Progress) (row : List ItsAction) : Type 0 where
+    pub runs : t₀ .more ≡ true
+    pub begun-so : Begun t₀ (length row₀)
+    pub made : List ItsAction
+    pub counting : Counting w (t₀ .counts .left) (t₀ .unit) (t .unit) (t .counts) made
+    pub handed : List ItsAction
+    pub at-place : ℕ
+    pub is : t ≡ progressOf (t .unit) (t .counts) handed at-place
+    pub rows : row ≡ rowOf (λ a. a) made row₀
+
+  pub data Running : Progress → List ItsAction → Type 0 where
+    -- nothing runs
+    quiet : {t : Progress} {row : List ItsAction} → t₀ .more ≡ false → t ≡ t₀ → row ≡ row₀ → Running t row
+    -- the queue runs
+    counted : {t : Progress} {row : List ItsAction} → Counted t row → Running t row
+
+  pub running-begins : Begun t₀ (length row₀) → Running t₀ row₀
+  running-begins b =
+      cases (t₀ .more)
+      (λ h. let is = b .starts h in
+      counted (record {
+        runs = h;
+        begun-so = b;
+        made = [];
+        counting = subst (λ n. Counting w (t₀ .counts .left) (t₀ .unit) (t₀ .unit) n []) (sym (ap (λ t. t .counts) is)) (begins w (t₀ .counts .left) (t₀ .unit) (b .stands h));
+        handed = [];
+        at-place = 0;
+        is = is ∙ ap (λ n. progressOf (t₀ .unit) n [] 0) (sym (ap (λ t. t .counts) is));
+        rows = refl;
+      }))
+      (λ h. quiet h refl refl)
+
+  module _ {t : Progress} {row : List ItsAction} (more : t .more ≡ true) where
+    as-counted : Running t row → Counted t row
+    as-counted (quiet h e l) = never (t .more) more (ap (λ s. s .more) e ∙ h)
+    as-counted (counted g) = g
+
+    module _ (g : Counted t row) where
+      left-over : 0 < t .counts .left
+      left-over = ltb-true 0 (t .counts .left) (sym (ap (λ s. s .more) (g .is)) ∙ more)
+
+      few : t₀ .counts .left ≤ 1024
+      few = g .begun-so .few (g .runs)
+
+      long : length row ≡ length row₀
+      long = ap length (g .rows) ∙ row-long (λ a. a) (g .made) row₀ (omega (arith, g .counting .counted, room w (g .counting), g .begun-so .room-left (g .runs)))
+
+      ready-so : Ready t
+      ready-so =
+          record {
+            some-left = left-over;
+            counted = omega (arith, fits w (g .counting), few);
+            handed = omega (arith, room w (g .counting), few);
+            stands = stands w (g .counting);
+          }
+
+      -- a turn y
+      module _ (y : Turn) (is-turn : turn w (t .unit) ≡ y) where
+        has-room : t .counts .actions < length row
+        has-room = omega (arith, long, left-over, room w (g .counting), g .begun-so .room-left (g .runs))
+
+        laid-is : (l : List ItsAction) → (if acts l then set row (t .counts .actions) (firstOf l) else row) ≡ rowPast (λ a. a) l (t .counts .actions) row
+        laid-is [] = refl
+        laid-is (a ∷ l) = refl
+
+        row-so : (l : List ItsAction) → length l ≤ 1 → (if acts l then set row (t .counts .actions) (firstOf l) else row) ≡ rowOf (λ a. a) (g .made ++ l) row₀
+        row-so l h =
+            laid-is l
+            ∙ (ap (rowPast (λ a. a) l (t .counts .actions)) (g .rows)
+            ∙ row-on (λ a. a) noAction (g .made) row₀ (t .counts .actions) l h (g .counting .counted) (omega (arith, long, has-room)))
+
+        next : Counted (turnedOn t y) (laid (turnedOn t y) row)
+        unfolding turnedOn
+        next =
+            record {
+              runs = g .runs;
+              begun-so = g .begun-so;
+              made = g .made ++ handedBy (t .unit) y;
+              counting = turns w (g .counting) left-over y is-turn;
+              handed = handedBy (t .unit) y;
+              at-place = t .counts .actions;
+              is = refl;
+              rows = row-so (handedBy (t .unit) y) (one-by (t .unit) y);
+            }
+
+        less : turnedOn t y .counts .left < t .counts .left
+        unfolding turnedOn
+        less = fewer w (g .counting) left-over y
+
+        placed : turnedOn t y .at < length row
+        unfolding turnedOn
+        placed = has-room
+
+    -- what the loop's step is told
+    module _ (so-far : Running t row) where
+      pub running-ready : Ready t
+      running-ready = ready-so (as-counted so-far)
+
+      module _ {c : CommandRead} (read : c ≡ commandRead w (t .wanted)) where
+        wanted-is : c ≡ commandRead w (commandAddress (t .unit .registers) (t .unit .registers .creadr))
+        wanted-is = read ∙ ap (λ s. commandRead w (s .wanted)) (as-counted so-far .is)
+
+        the-turn : turn w (t .unit) ≡ turnRead (t .unit) c
+        the-turn = turn-reads w (t .unit) wanted-is
+
+        pub running-on : Running (turnOf t c) (laid (turnOf t c) row)
+        running-on = counted (next (as-counted so-far) (turnRead (t .unit) c) the-turn)
+
+        pub running-less : turnOf t c .counts .left < t .counts .left
+        running-less = less (as-counted so-far) (turnRead (t .unit) c) the-turn
+
+        pub running-placed : turnOf t c .at < length row
+        running-placed = placed (as-counted so-far) (turnRead (t .unit) c) the-turn
+
+  -- the end
+  module _ {t : Progress} {row : List ItsAction} (over : t .more ≡ false) where
+    end-counted : Counted t row → (finishOf t ≡ endOf w t₀ row₀ .written) × (row ≡ endOf w t₀ row₀ .row)
+    end-counted g =
+        let none-left : t .counts .left ≡ 0 = omega (arith, ltb-false 0 (t .counts .left) (sym (ap (λ s. s .more) (g .is)) ∙ over)) in
+        let q = run w (t₀ .counts .left) (t₀ .unit) in
+        let unit : t .unit ≡ q .unit = unit-ends w (g .counting) none-left in
+        let answer : t .answer ≡ afterRun q row₀ .written .answer = ap (λ s. s .answer) (g .is) ∙ answer-ends w (g .counting) none-left in
+        let rows : row ≡ afterRun q row₀ .row =
+        g .rows ∙ ap (λ l. l ++ drop (length (g .made)) row₀) (row-same (g .made)) ∙ ap (λ m. rowAfter m row₀) (actions-end w (g .counting) none-left) in
+        rw (g .runs) (ap₂ (λ u a. record { unit = u; answer = a }) unit answer, rows)
+
+    pub running-ends : Running t row → (finishOf t ≡ endOf w t₀ row₀ .written) × (row ≡ endOf w t₀ row₀ .row)
+    running-ends (quiet h e l) = rw h (ap finishOf e, l)
+    running-ends (counted g) = end-counted g
+
+  pub laid-long : (t : Progress) (row : List ItsAction) → length (laid t row) ≡ length row
+  laid-long t row = cases (t .acted) (λ h. rw h (length-set row (t .at) (t .action))) (λ h. rw h refl)
