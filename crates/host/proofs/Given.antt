@@ -17,10 +17,12 @@ use Rattle.model.specs.Choose.{if_then_else_}
 use Rattle.model.specs.Arm.{LPI-base}
 use Rattle.model.specs.declared.Refusal.the-variants.{Unsound}
 use Rattle.model.specs.declared.Verdict.the-variants.{Accepted, Refused}
+use Rattle.model.specs.With.{aConfig}
 use Rattle.model.specs.Config.{processorsOf, noneTwice, soundConfig, freshUnit, noUnit}
 use Rattle.model.specs.Entry.{configure}
-use Rattle.host.specs.Calls.{configGiven}
-use Rattle.host.specs.Parts.{processorsGiven, countGiven}
+use Rattle.model.proofs.RowLaws.{map-append, map-length}
+use Rattle.host.specs.Calls.{processorsGiven, configGiven}
+use Rattle.host.specs.Parts.{countGiven}
 
 abbrev pub processor : ℕ → GicVcpuId
 processor n = record { 0 = n }
@@ -31,14 +33,6 @@ none = record { 0 = 0 }
 -- sixteen places, of which the first k hold a processor
 abbrev pub filled : ℕ → List ℕ → List GicVcpuId
 filled k l = map processor (take k l) ++ replicate (16 - k) none
-
-length-map : (l : List ℕ) → length (map processor l) ≡ length l
-length-map [] = refl
-length-map (a ∷ l) = ap suc (length-map l)
-
-map-append : (l m : List ℕ) → map processor (l ++ m) ≡ map processor l ++ map processor m
-map-append [] m = refl
-map-append (a ∷ l) m = ap (λ ps. processor a ∷ ps) (map-append l m)
 
 map-take : (k : ℕ) (l : List ℕ) → map processor (take k l) ≡ take k (map processor l)
 map-take zero l = refl
@@ -54,14 +48,14 @@ pub filled-more : (k : ℕ) (l : List ℕ) → k < 16 → k < length l → set (
 filled-more k l h b =
     let places : 16 - k ≡ suc (15 - k) = omega arith in
     let left : 16 - (k + 1) ≡ 15 - k = omega arith in
-    let long : length (map processor (take k l)) ≡ k = length-map (take k l) ∙ length-take-le k l (omega arith) in
+    let long : length (map processor (take k l)) ≡ k = map-length processor (take k l) ∙ length-take-le k l (omega arith) in
     rw (
       places,
       left,
       set-at (map processor (take k l)) none (replicate (15 - k) none) (processor (getD l k 0)) k long,
       add-one k,
       take-suc l k 0 b,
-      map-append,
+      map-append processor,
       append-snoc,
     )
 
@@ -70,7 +64,7 @@ pub filled-all : (k : ℕ) (l : List ℕ) → k ≤ 16 → length l ≡ k → fi
 unfolding processorsGiven
 filled-all k l h e =
     let whole : take k l ≡ l = take-all k l (omega arith) in
-    let places : 16 ≡ length (map processor l) + (16 - k) = rw length-map (omega arith) in
+    let places : 16 ≡ length (map processor l) + (16 - k) = rw (map-length processor l) (omega arith) in
     ap (λ ps. map processor ps ++ replicate (16 - k) none) whole
     ∙ sym
     (ap (λ n. take n (map processor l ++ replicate 16 none)) places
@@ -81,7 +75,7 @@ pub filled-first : (l : List ℕ) → 16 ≤ length l → filled 16 l ≡ proces
 unfolding processorsGiven
 filled-first l h =
     append-nil (map processor (take 16 l))
-    ∙ (map-take 16 l ∙ sym (take-append-le 16 (map processor l) (replicate 16 none) (rw length-map h)))
+    ∙ (map-take 16 l ∙ sym (take-append-le 16 (map processor l) (replicate 16 none) (rw (map-length processor l) h)))
 
 -- The configuration.
 pub unsound : (k : ItsConfig) → soundConfig k ≡ false → configure k ≡ record { unit = noUnit; verdict = Refused Unsound }
@@ -101,7 +95,7 @@ none-after false b c d f = refl
 
 module _ (limit budget frame : ℕ) (ps : List ℕ) where
   abbrev made : ℕ → ItsConfig
-  made n = record { «lpi_limit» = limit; «command_budget» = budget; «frame_size» = frame; «processor_count» = n; processors = processorsGiven ps }
+  made n = aConfig limit budget frame n (processorsGiven ps)
 
   many : (n : ℕ) → 16 < n → soundConfig (made n) ≡ false
   unfolding soundConfig
@@ -114,8 +108,7 @@ module _ (limit budget frame : ℕ) (ps : List ℕ) where
   by-count false e = unsound (made 17) (many 17 (omega arith)) ∙ sym (unsound (made (length ps)) (many (length ps) (let h = ltb-false (length ps) 17 e in omega arith)))
 
   pub given : {count : ℕ} {listed : List GicVcpuId} → count ≡ countGiven ps → listed ≡ processorsGiven ps →
-      configure (record { «lpi_limit» = limit; «command_budget» = budget; «frame_size» = frame; «processor_count» = count; processors = listed }) ≡ configure (configGiven limit budget frame ps)
-  unfolding processorsGiven
+      configure (aConfig limit budget frame count listed) ≡ configure (configGiven limit budget frame ps)
   given c l =
-      ap₂ (λ n ls. configure (record { «lpi_limit» = limit; «command_budget» = budget; «frame_size» = frame; «processor_count» = n; processors = ls })) c l
+      ap₂ (λ n ls. configure (aConfig limit budget frame n ls)) c l
       ∙ by-count (ltb (length ps) 17) refl

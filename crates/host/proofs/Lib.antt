@@ -1,7 +1,5 @@
-pub mod Told
+pub mod Tells
 pub mod Given
-pub mod Words
-pub mod Turned
-pub mod Going
-pub mod Queued
+pub mod Cleared
+pub mod RowReads
 pub mod Written

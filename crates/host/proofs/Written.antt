@@ -1,61 +1,73 @@
--- A write is what it is prepared to be and, where that lets the queue run, the run. u is the unit before it, s the numbers after what was
--- stored.
+-- A write, from what it does to the registers: where that lets the queue run, the run, and else nothing more. s₀ are the numbers before it, s those after
+-- the registers were stored.
 -- Assumes nothing.
 use Prim.Native.Nat.{ℕ, _≤_}
-use mathlib.Core.Path.{_≡_, refl, sym, _∙_, ap}
+use native.Mathlib.Omega.{arith}
+use mathlib.Core.Path.{_≡_, refl, sym, ap, ap₂, _∙_}
 use mathlib.Core.Bool.{true, false}
 use mathlib.Core.List.{List, [], map}
 use lib.ListN.{length}
+use Rattle.model.specs.declared.ItsAction.{ItsAction}
+use Rattle.model.specs.declared.ItsConfig.{ItsConfig}
+use Rattle.model.specs.declared.ItsRegisters.{ItsRegisters}
+use Rattle.model.specs.declared.RegisterWrite.{RegisterWrite}
 use Rattle.model.specs.declared.WriteAnswer.{WriteAnswer}
+use Rattle.model.specs.With.{withRegisters}
 use Rattle.model.specs.Config.{soundUnit}
-use Rattle.model.specs.Queue.{Window, withRegisters, runQueue}
-use Rattle.model.specs.Entry.{afterRun, write}
-use Rattle.registers.specs.declared.RegisterWrite.{RegisterWrite}
-use Rattle.its.specs.declared.Prepared.{Prepared}
-use Rattle.its.specs.Prepared.{accessing, preparedBy, prepared}
-use Rattle.its.proofs.Writes.{outcome, as-prepared, ready-to-run}
-use Rattle.numbers.specs.Unit.{configIn, registersIn, unitIn}
-use Rattle.host.specs.Calls.{actionIn, rowWith, handedAfter}
+use Rattle.model.specs.Queue.{Window, runQueue}
+use Rattle.model.specs.Writing.{registerWrite}
+use Rattle.model.specs.Entry.{afterRun, running, concluded, stores, write}
+use Rattle.model.proofs.RowLaws.{map-length}
+use Rattle.lent_tables.specs.Numbers.{configIn, registersIn, unitIn}
+use Rattle.lent_queue.specs.Actions.{actionIn, rowWith}
+use Rattle.lent_queue.specs.Turns.{Leaves}
+use Rattle.host.specs.Calls.{actionsBy, actionsMade}
 use Rattle.host.specs.Parts.{Wrote}
-use Rattle.host.specs.Runs.{Leaves}
-use Rattle.host.proofs.Going.{map-length, row-says}
+use Rattle.model.proofs.Ways.{runs-ready}
 
-module _ (w : Window) (row s₀ : List ℕ) (offset width value : ℕ) (a : RegisterWrite) (s : List ℕ)
-    (told : a ≡ accessing (configIn s₀) (registersIn s₀) (length row) offset width value) (put : unitIn s ≡ withRegisters (unitIn s₀) (a .registers)) where
-  abbrev p : Prepared
-  p = prepared (unitIn s₀) (length row) offset width value
+module _ (w : Window) (row s₀ : List ℕ) (offset width value : ℕ) (a : RegisterWrite) (k : ItsConfig) (r : ItsRegisters)
+    (config : k ≡ configIn s₀) (registers : r ≡ registersIn s₀) (does : a ≡ registerWrite k r (length row) offset width value) (s : List ℕ) (put : unitIn s ≡ withRegisters (unitIn s₀) (a .registers)) where
+  abbrev actions : List ItsAction
+  actions = map actionIn row
 
-  is-prepared : p ≡ record { unit = unitIn s; answer = a .answer; runs = a .runs }
-  unfolding prepared
-  is-prepared = ap (preparedBy (unitIn s₀)) (sym told) ∙ ap (λ v. record { unit = v; answer = a .answer; runs = a .runs }) (sym put)
+  -- it is what the model's write stores
+  as-stored : stores actions (unitIn s₀) offset width value ≡ a
+  as-stored =
+      sym (does ∙ ap₂ (λ c v. registerWrite c v (length row) offset width value) config registers
+      ∙ ap (λ n. registerWrite (configIn s₀) (registersIn s₀) n offset width value) (sym (map-length actionIn row)))
+
+  is-written : write w actions (unitIn s₀) offset width value ≡ concluded w actions (unitIn s₀) a
+  unfolding write
+  is-written = ap (concluded w actions (unitIn s₀)) as-stored
+
+  is-made : actionsMade w actions (unitIn s₀) offset width value ≡ actionsBy w (unitIn s₀) a
+  is-made = ap (actionsBy w (unitIn s₀)) as-stored
 
   pub ready : a .runs ≡ true → (soundUnit (unitIn s) ≡ true) × (configIn s .«command_budget» ≤ length row)
   ready on =
-      let r = ready-to-run (unitIn s₀) (length row) offset width value (ap (λ q. q .runs) is-prepared ∙ on) in
-      let e = ap (λ q. q .unit) is-prepared in
-      (ap soundUnit (sym e) ∙ r .sound, rw (ap (λ v. v .config .«command_budget») e) at (r .budget))
+      let is : a ≡ registerWrite (configIn s₀) (registersIn s₀) (length row) offset width value = does ∙ ap₂ (λ c v. registerWrite c v (length row) offset width value) config registers in
+      let h = runs-ready (unitIn s₀) (length row) offset width value (ap (λ q. q .runs) (sym is) ∙ on) in
+      let same = ap (λ u. u .config .«command_budget») put in
+      (ap soundUnit (put ∙ ap (λ q. withRegisters (unitIn s₀) (q .registers)) is) ∙ h .0, omega (arith, same, h .1))
 
-  is-written : write w (map actionIn row) (unitIn s₀) offset width value ≡ outcome w (map actionIn row) (record { unit = unitIn s; answer = a .answer; runs = a .runs })
-  is-written = as-prepared w (map actionIn row) (unitIn s₀) (length row) offset width value (map-length actionIn row) ∙ ap (outcome w (map actionIn row)) is-prepared
-
-  pub wrote-ran : {r : WriteAnswer} {left after : List ℕ} → a .runs ≡ true → Leaves (runQueue w (unitIn s)) row r left after → Wrote w row s₀ offset width value r left after
+  pub wrote-ran : {answer : WriteAnswer} {left after : List ℕ} → a .runs ≡ true → Leaves (runQueue w (unitIn s)) row answer left after →
+      Wrote w row s₀ offset width value answer left after
+  unfolding running
   wrote-ran on l =
-      let e : write w (map actionIn row) (unitIn s₀) offset width value ≡ afterRun (runQueue w (unitIn s)) (map actionIn row) = is-written ∙ rw on refl in
-      let h : handedAfter w p ≡ runQueue w (unitIn s) .actions = ap (handedAfter w) is-prepared ∙ rw on refl in
+      let e : write w actions (unitIn s₀) offset width value ≡ afterRun (runQueue w (unitIn s)) actions = is-written ∙ rw (on, put) refl in
+      let m : actionsMade w actions (unitIn s₀) offset width value ≡ runQueue w (unitIn s) .actions = is-made ∙ rw (on, put) refl in
       record {
         unit = l .unit ∙ sym (ap (λ o. o .written .unit) e);
         answer = l .answer ∙ sym (ap (λ o. o .written .answer) e);
-        rows = ap (map actionIn) (l .rows) ∙ (row-says (runQueue w (unitIn s) .actions) row (l .kept) ∙ sym (ap (λ o. o .row) e));
-        exact = l .rows ∙ ap (λ d. rowWith d row) (sym h);
+        row = l .rows ∙ ap (λ d. rowWith d row) (sym m);
       }
 
   pub wrote-left : a .runs ≡ false → Wrote w row s₀ offset width value (a .answer) s row
   wrote-left off =
-      let e : write w (map actionIn row) (unitIn s₀) offset width value ≡ record { written = record { unit = unitIn s; answer = a .answer }; row = map actionIn row } = is-written ∙ rw off refl in
-      let h : handedAfter w p ≡ [] = ap (handedAfter w) is-prepared ∙ rw off refl in
+      let e : write w actions (unitIn s₀) offset width value ≡ record { written = record { unit = unitIn s; answer = a .answer }; row = actions } = is-written ∙ rw (off, put) refl in
+      let m : actionsMade w actions (unitIn s₀) offset width value ≡ [] = is-made ∙ rw off refl in
       record {
         unit = sym (ap (λ o. o .written .unit) e);
         answer = sym (ap (λ o. o .written .answer) e);
-        rows = sym (ap (λ o. o .row) e);
-        exact = ap (λ d. rowWith d row) (sym h);
+        row = ap (λ d. rowWith d row) (sym m);
       }

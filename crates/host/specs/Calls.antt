@@ -1,25 +1,25 @@
--- What the C calls for hosts promise: the predicate that each `ensures` names, over the unit that the lent numbers are (crates/numbers), what comes
+-- What the C calls for hosts promise: the predicate that each `ensures` names, over the unit that the lent numbers are (crates/lent_tables), what comes
 -- back, and what is left. Each says that the call does what the model's entry says, and asks nothing of the inputs.
 -- Assumes nothing.
-use Prim.Native.Nat.{ℕ, _+_, _*_, _/_, _%_, _^_}
+use Prim.Native.Nat.{ℕ}
 use mathlib.Core.Path.{_≡_}
 use mathlib.Core.List.{List, [], _∷_, _++_, map}
-use lib.ListN.{length, getD, take, drop, replicate}
-use lib.Dec.{eqb}
+use lib.ListN.{length, getD, take, replicate}
+use Rattle.model.specs.declared.GicVcpuId.{GicVcpuId}
 use Rattle.model.specs.declared.ItsConfig.{ItsConfig}
 use Rattle.model.specs.declared.ItsAction.{ItsAction}
 use Rattle.model.specs.declared.ItsState.{ItsState}
 use Rattle.model.specs.declared.Configured.{Configured}
 use Rattle.model.specs.declared.ReadAnswer.{ReadAnswer}
+use Rattle.model.specs.declared.RegisterWrite.{RegisterWrite}
 use Rattle.model.specs.declared.WriteAnswer.{WriteAnswer}
 use Rattle.model.specs.declared.TranslateAnswer.{TranslateAnswer}
 use Rattle.model.specs.Choose.{if_then_else_}
+use Rattle.model.specs.With.{withRegisters, aConfig}
 use Rattle.model.specs.Refusal.{verdictNumber, readNumbers, writeNumbers, translateNumbers}
-use Rattle.model.specs.Register.{oneIf}
 use Rattle.model.specs.Queue.{Window, runQueue}
-use Rattle.model.specs.Entry.{configure, read, write, translate}
-use Rattle.its.specs.declared.Prepared.{Prepared}
-use Rattle.its.specs.Prepared.{prepared}
+use Rattle.model.specs.Entry.{configure, read, translate, stores, write}
+pub use Rattle.lent_queue.specs.Actions.{actionIn, rowWith}
 
 -- An answer is five numbers, those of the line that a trace gets; the call returns the first of them, the refusal.
 abbrev pub Tells : List ℕ → ℕ → List ℕ → Type 0
@@ -37,33 +37,25 @@ numbersOfWrite a = writeNumbers a .refusal ∷ writeNumbers a .opcode ∷ writeN
 abbrev pub numbersOfTranslation : TranslateAnswer → List ℕ
 numbersOfTranslation a = translateNumbers a .refusal ∷ translateNumbers a .lpi ∷ translateNumbers a .processor ∷ 0 ∷ 0 ∷ []
 
--- The configuration that a host gives: the numbers of all its processors, of which a unit holds sixteen.
+-- The configuration that a host gives: the numbers of all its processors, of which a unit holds the first sixteen; where fewer are given, the others
+-- are 0 and do not count.
+unfoldable pub processorsGiven : List ℕ → List GicVcpuId
+processorsGiven ps = take 16 (map (λ n. record { 0 = n }) ps ++ replicate 16 (record { 0 = 0 }))
+
 abbrev pub configGiven : ℕ → ℕ → ℕ → List ℕ → ItsConfig
-configGiven limit budget frame ps =
-    record {
-      «lpi_limit» = limit;
-      «command_budget» = budget;
-      «frame_size» = frame;
-      «processor_count» = length ps;
-      processors = take 16 (map (λ n. record { 0 = n }) ps ++ replicate 16 (record { 0 = 0 }));
-    }
+configGiven limit budget frame ps = aConfig limit budget frame (length ps) (processorsGiven ps)
 
--- An action as a number, and which action a number of the row is.
-abbrev pub actionWord : ItsAction → ℕ
-actionWord a = oneIf (a .pending) * 2 ^ 48 + a .target .0 * 2 ^ 32 + a .lpi .0
+-- The actions of a write.
 
-abbrev pub actionIn : ℕ → ItsAction
-actionIn w = record { target = record { 0 = w / 2 ^ 32 % 2 ^ 16 }; lpi = record { 0 = w % 2 ^ 32 }; pending = eqb (w / 2 ^ 48 % 2) 1 }
+-- those of the run, where the write lets the queue run
+abbrev pub actionsBy : Window → ItsState → RegisterWrite → List ItsAction
+actionsBy w u s = if s .runs then runQueue w (withRegisters u (s .registers)) .actions else []
 
--- the row after a write that handed over these actions: the numbers behind them stay as they were
-abbrev pub rowWith : List ItsAction → List ℕ → List ℕ
-rowWith handed row = map actionWord handed ++ drop (length handed) row
+-- the actions of the INT and CLEAR carried out in this write
+abbrev pub actionsMade : Window → List ItsAction → ItsState → ℕ → ℕ → ℕ → List ItsAction
+actionsMade w row u offset width value = actionsBy w u (stores row u offset width value)
 
--- what a write hands over
-abbrev pub handedAfter : Window → Prepared → List ItsAction
-handedAfter w p = if p .runs then runQueue w (p .unit) .actions else []
-
--- The calls. `left` is the unit that is left, `after` what stands in the row afterwards.
+-- The calls. `left` is the unit that is left, `r` the number returned.
 abbrev pub CallConfigures : ℕ → ℕ → ℕ → List ℕ → ItsState → ℕ → List ℕ → Type 0
 CallConfigures limit budget frame ps left r told =
     (left ≡ configure (configGiven limit budget frame ps) .unit)
@@ -72,15 +64,13 @@ CallConfigures limit budget frame ps left r told =
 abbrev pub CallReads : ItsState → ℕ → ℕ → ℕ → List ℕ → Type 0
 CallReads u offset width r told = Tells (numbersOfRead (read u offset width)) r told
 
-abbrev pub CallWrites : Window → List ℕ → ItsState → ℕ → ℕ → ℕ → ItsState → List ℕ → ℕ → List ℕ → Type 0
-CallWrites w row u offset width value left after r told =
-    (left ≡ write w (map actionIn row) u offset width value .written .unit)
-    × ((after ≡ rowWith (handedAfter w (prepared u (length row) offset width value)) row)
-    × Tells (numbersOfWrite (write w (map actionIn row) u offset width value .written .answer)) r told)
-
--- the same row, read back as actions, is the row that the model's write leaves
-abbrev pub RowReads : Window → List ℕ → ItsState → ℕ → ℕ → ℕ → List ℕ → Type 0
-RowReads w row u offset width value after = map actionIn after ≡ write w (map actionIn row) u offset width value .row
+-- `given` are the numbers of the row before the write, `after` those afterwards. The first k numbers say the actions of the k INT and CLEAR carried out,
+-- refusal or not; the others are unchanged. Read as actions, they are the row that the model's write leaves
+pub record CallWrites (w : Window) (given : List ℕ) (u : ItsState) (offset width value : ℕ) (left : ItsState) (after : List ℕ) (r : ℕ) (numbers : List ℕ) : Type 0 where
+  pub unit : left ≡ write w (map actionIn given) u offset width value .written .unit
+  pub row : after ≡ rowWith (actionsMade w (map actionIn given) u offset width value) given
+  pub row-reads : map actionIn after ≡ write w (map actionIn given) u offset width value .row
+  pub told : Tells (numbersOfWrite (write w (map actionIn given) u offset width value .written .answer)) r numbers
 
 abbrev pub CallTranslates : ItsState → ℕ → ℕ → ℕ → List ℕ → Type 0
 CallTranslates u device event r told = Tells (numbersOfTranslation (translate u (record { 0 = device }) (record { 0 = event }))) r told

@@ -1,8 +1,7 @@
-// The unit for a host: C calls over a unit that the host owns as numbers (specs/Unit.antt of crate `numbers`), with the window and the row as
+// The unit for a host: C calls over a unit that the host owns as numbers (specs/Numbers.antt of crate `lent_tables`), with the window and the row as
 // pointer and length. Each call puts the numbers of its answer, those of the line that `itstrace` would write, into `told`, and returns the
 // first of them, the refusal. What each promises is said in specs/Calls.antt.
-mod run;
-
+use lent_tables::Numbers;
 use model::EventId;
 use model::GicVcpuId;
 use model::ItsConfig;
@@ -15,10 +14,10 @@ ghost use mathlib.Core.Path.{_≡_};
 ghost use lib.ListN.{length};
 ghost use Rattle.model.specs.Config.{noUnit};
 ghost use Rattle.model.specs.Entry.{configure as configureOf, translate as translateOf};
-ghost use Rattle.queue.specs.Reading.{lent};
-ghost use Rattle.numbers.specs.Unit.{unitIn};
-ghost use Rattle.host.specs.Calls.{Tells, CallConfigures, CallReads, CallWrites, RowReads, CallTranslates};
-ghost use Rattle.host.specs.Parts.{processorsGiven, countGiven, Wrote};
+ghost use Rattle.lent_tables.specs.Numbers.{NUMBERS, unitIn};
+ghost use Rattle.lent_queue.specs.Turns.{lent};
+ghost use Rattle.host.specs.Calls.{Tells, processorsGiven, CallConfigures, CallReads, CallWrites, CallTranslates};
+ghost use Rattle.host.specs.Parts.{countGiven, Wrote};
 
 // The five numbers of an answer.
 fn tell(told: &mut [u64], numbers: [u64; 5]) -> u64
@@ -35,16 +34,16 @@ fn tell(told: &mut [u64], numbers: [u64; 5]) -> u64
 
 // The unit that no access has touched and that has no configuration.
 fn clear(state: &mut [u64])
-    requires { ⌜ length (now state) ≡ 608 ⌝ }
+    requires { ⌜ length (now state) ≡ NUMBERS ⌝ }
     ensures { λ _. ⌜ unitIn (now (state .exit)) ≡ noUnit ⌝ }
 {
     let mut i: usize = 0;
-    while i < 608 {
+    while i < lent_tables::NUMBERS {
         state[i] = 0;
         i += 1;
     }
-    state[24] = 0x0107_0000_0000_0000;
-    state[25] = 0x0407_0000_0000_0000;
+    state[lent_tables::BASERS] = 0x0107_0000_0000_0000;
+    state[lent_tables::BASERS + 1] = 0x0407_0000_0000_0000;
 }
 
 // The first sixteen of the processors' numbers.
@@ -77,20 +76,20 @@ fn count_given(numbers: &[u16]) -> u8
 }
 
 // A fresh unit of a configuration that is accepted, or one that answers 1 to everything.
-fn configure(state: &mut [u64; 608], config: ItsConfig) -> Verdict
+fn configure(state: &mut Numbers, config: ItsConfig) -> Verdict
     ensures { λ r. ⌜ (unitIn (now (state .exit)) ≡ configureOf config .unit) × (r ≡ configureOf config .verdict) ⌝ }
 {
     clear(state);
     if !registers::sizes::sound_config(config) {
         return Verdict::Refused(Refusal::Unsound);
     }
-    numbers::put_config(state, config);
+    lent_tables::put_config(state, config);
     Verdict::Accepted
 }
 
 #[no_mangle]
 pub extern "C" fn its_configure(
-    state: &mut [u64; 608],
+    state: &mut Numbers,
     lpi_limit: u32,
     command_budget: u32,
     frame_size: u32,
@@ -109,24 +108,24 @@ pub extern "C" fn its_configure(
         processors: listed,
     };
     let verdict = configure(state, config);
-    let n = text::lines::verdict_number(verdict);
+    let n = answers::verdict_number(verdict);
     tell(told, [n, 0, 0, 0, 0])
 }
 
 #[no_mangle]
-pub extern "C" fn its_read(state: &[u64; 608], offset: u64, width: u8, told: &mut [u64; 5]) -> u64
+pub extern "C" fn its_read(state: &Numbers, offset: u64, width: u8, told: &mut [u64; 5]) -> u64
     ensures { λ r. ⌜ CallReads (unitIn (now (state .entry))) offset width r (now (told .exit)) ⌝ }
 {
-    let config = numbers::config_in(state);
-    let registers = numbers::registers_in(state);
-    let answer = its::read_from(config, registers, offset, width);
-    let n = text::lines::read_numbers(answer);
+    let config = lent_tables::config_in(state);
+    let registers = lent_tables::registers_in(state);
+    let answer = registers::read_from(config, registers, offset, width);
+    let n = answers::read_numbers(answer);
     tell(told, n)
 }
 
 // A write, with any window and any row.
 fn write(
-    state: &mut [u64; 608],
+    state: &mut Numbers,
     address: u64,
     bytes: &[u8],
     row: &mut [u64],
@@ -136,20 +135,20 @@ fn write(
 ) -> WriteAnswer
     ensures { λ r. ⌜ Wrote (lent address (now (bytes .entry))) (now (row .entry)) (now (state .entry)) offset width value r (now (state .exit)) (now (row .exit)) ⌝ }
 {
-    let config = numbers::config_in(state);
-    let registers = numbers::registers_in(state);
-    let w = its::write_access(config, registers, row.len(), offset, width, value);
+    let config = lent_tables::config_in(state);
+    let registers = lent_tables::registers_in(state);
+    let w = registers::write_access(config, registers, row.len(), offset, width, value);
     let left = w.registers;
-    numbers::put_registers(state, left);
+    lent_tables::put_registers(state, left);
     if w.runs {
-        return crate::run::process_commands(state, address, bytes, row);
+        return lent_queue::process_commands(state, address, bytes, row);
     }
     w.answer
 }
 
 #[no_mangle]
 pub extern "C" fn its_write(
-    state: &mut [u64; 608],
+    state: &mut Numbers,
     address: u64,
     bytes: &[u8],
     row: &mut [u64],
@@ -158,29 +157,28 @@ pub extern "C" fn its_write(
     value: u64,
     told: &mut [u64; 5],
 ) -> u64
-    ensures { λ r. ⌜ CallWrites (lent address (now (bytes .entry))) (now (row .entry)) (unitIn (now (state .entry))) offset width value (unitIn (now (state .exit))) (now (row .exit)) r (now (told .exit))
-        × RowReads (lent address (now (bytes .entry))) (now (row .entry)) (unitIn (now (state .entry))) offset width value (now (row .exit)) ⌝ }
+    ensures { λ r. ⌜ CallWrites (lent address (now (bytes .entry))) (now (row .entry)) (unitIn (now (state .entry))) offset width value (unitIn (now (state .exit))) (now (row .exit)) r (now (told .exit)) ⌝ }
 {
     let answer = write(state, address, bytes, row, offset, width, value);
-    let n = text::lines::write_numbers(answer);
+    let n = answers::write_numbers(answer);
     tell(told, n)
 }
 
 // A disabled unit translates too.
-fn translate(state: &[u64; 608], device: ItsDeviceId, event: EventId) -> TranslateAnswer
+fn translate(state: &Numbers, device: ItsDeviceId, event: EventId) -> TranslateAnswer
     ensures { λ r. ⌜ r ≡ translateOf (unitIn (now (state .entry))) device event ⌝ }
 {
-    let config = numbers::config_in(state);
-    let registers = numbers::registers_in(state);
+    let config = lent_tables::config_in(state);
+    let registers = lent_tables::registers_in(state);
     if !registers::sizes::sound_unit(config, registers) {
         return TranslateAnswer::NotDelivered(Refusal::Unsound);
     }
-    carries::deliver(state, device, event)
+    lent_command::pairs::deliver(state, device, event)
 }
 
 #[no_mangle]
 pub extern "C" fn its_translate(
-    state: &[u64; 608],
+    state: &Numbers,
     device: u32,
     event: u32,
     told: &mut [u64; 5],
@@ -188,6 +186,6 @@ pub extern "C" fn its_translate(
     ensures { λ r. ⌜ CallTranslates (unitIn (now (state .entry))) device event r (now (told .exit)) ⌝ }
 {
     let answer = translate(state, ItsDeviceId(device), EventId(event));
-    let n = text::lines::translate_numbers(answer);
+    let n = answers::translate_numbers(answer);
     tell(told, n)
 }

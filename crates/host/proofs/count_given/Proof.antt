@@ -5,9 +5,6 @@ use borrow.Author.Needs.{needs}
 use Rattle.host.proofs.count_given.Statement.{statement}
 use Rattle.host.proofs.count_given.Tie as tie
 
-cast-result : tie.Need-cast-result
-cast-result c = search needs
-
 returns : tie.Need-returns
 returns c = rw (lt-ltb _ 17 (c .if1 .taken))
 
@@ -15,4 +12,4 @@ returns-2 : tie.Need-returns-2
 returns-2 c = rw (le-ltb _ 17 (c .if1 .left))
 
 pub count-given-spec : {M : Type 1} → statement M
-count-given-spec = tie.close (tie.spec cast-result returns returns-2)
+count-given-spec = tie.close (tie.spec (λ c. search needs) returns returns-2)

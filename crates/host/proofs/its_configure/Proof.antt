@@ -3,26 +3,11 @@
 use mathlib.Core.Path.{ap, _∙_}
 use mathlib.Core.List.{[], _∷_}
 use Rattle.model.specs.Refusal.{verdictNumber}
-use Rattle.host.proofs.Told.{retold}
+use Rattle.host.proofs.Tells.{retold}
 use Rattle.host.proofs.Given.{given}
 use borrow.Author.Needs.{needs}
 use Rattle.host.proofs.its_configure.Statement.{statement}
 use Rattle.host.proofs.its_configure.Tie as tie
-
-count-given-requires : tie.Need-count-given-requires
-count-given-requires c κs = search needs
-
-processors-given-requires : tie.Need-processors-given-requires
-processors-given-requires c κs = search needs
-
-configure-requires : tie.Need-configure-requires
-configure-requires c κs = search needs
-
-verdict-number-requires : tie.Need-verdict-number-requires
-verdict-number-requires c κs = search needs
-
-tell-requires : tie.Need-tell-requires
-tell-requires c κs = search needs
 
 returns : tie.Need-returns
 returns c =
@@ -37,9 +22,4 @@ pub its-configure-spec : {M : Type 1} → statement M
 its-configure-spec =
     tie.close
     (tie.spec
-    count-given-requires
-    processors-given-requires
-    configure-requires
-    verdict-number-requires
-    tell-requires
-    returns)
+    (λ c κs. search needs) (λ c κs. search needs) (λ c κs. search needs) (λ c κs. search needs) (λ c κs. search needs) returns)

@@ -15,9 +15,6 @@ Inv-loop numbers processors₀ i₀ processors i = (processors ≡ filled i numb
 abbrev μ-loop : tie.MeasureT-loop
 μ-loop numbers processors₀ i₀ processors i = 16 - i
 
-loop-holds : tie.Need-loop-holds Inv-loop μ-loop
-loop-holds c = search needs
-
 mul-t7 : tie.Need-mul-t7 Inv-loop μ-loop
 mul-t7 c = omega arith
 
@@ -59,15 +56,5 @@ pub processors-given-spec : {M : Type 1} → statement M
 processors-given-spec =
     tie.close
     (tie.spec
-    Inv-loop
-    μ-loop
-    loop-holds
-    mul-t7
-    shared-slice-read-t9
-    mul-processors
-    array-set-from-processors
-    add-i
-    loop-less
-    loop-again
-    returns
+    Inv-loop μ-loop (λ c. search needs) mul-t7 shared-slice-read-t9 mul-processors array-set-from-processors add-i loop-less loop-again returns
     returns-2)

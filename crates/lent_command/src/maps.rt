@@ -1,0 +1,122 @@
+// MAPD, MAPC, MAPTI and MAPI on a unit that is lent as numbers.
+use lent_tables::Numbers;
+use model::CollectionId;
+use model::EventId;
+use model::Executed;
+use model::GicVcpuId;
+use model::ItsCollection;
+use model::ItsDevice;
+use model::ItsDeviceId;
+use model::LpiId;
+use model::Refusal;
+use model::Translation;
+ghost use mathlib.Core.Path.{_≡_};
+ghost use mathlib.Core.Bool.{true};
+ghost use Rattle.model.specs.declared.Command.the-variants.{Mapd, Mapc, Mapti};
+ghost use Rattle.model.specs.Config.{listed};
+ghost use Rattle.model.specs.Step.{lpiInRange};
+ghost use Rattle.lent_tables.specs.Numbers.{configIn, Carries};
+
+pub fn map_device(state: &mut Numbers, device: ItsDeviceId, event_bits: u8, valid: bool) -> Executed
+    ensures { λ r. ⌜ Carries (now (state .entry)) (Mapd device «event_bits» valid) r (now (state .exit)) ⌝ }
+{
+    if !valid {
+        lent_tables::records::drop_devices(state, device);
+        lent_tables::records::drop_translations_of(state, device);
+        return Executed::Done;
+    }
+    let at = lent_tables::records::place_of_device(state, device);
+    if lent_tables::DEVICE_RECORDS <= at {
+        return Executed::NotDone(Refusal::TableFull);
+    }
+    let r = ItsDevice {
+        device: device,
+        event_bits: event_bits,
+        used: true,
+    };
+    lent_tables::put_device(state, at, r);
+    Executed::Done
+}
+
+fn is_listed(state: &Numbers, target: GicVcpuId) -> bool
+    ensures { λ r. ⌜ r ≡ listed (configIn (now (state .entry))) target ⌝ }
+{
+    let config = lent_tables::config_in(state);
+    registers::sizes::is_listed(config, target)
+}
+
+pub fn map_collection(
+    state: &mut Numbers,
+    collection: CollectionId,
+    target: GicVcpuId,
+    valid: bool,
+) -> Executed
+    ensures { λ r. ⌜ Carries (now (state .entry)) (Mapc collection target valid) r (now (state .exit)) ⌝ }
+{
+    if !valid {
+        lent_tables::records::drop_collections(state, collection);
+        lent_tables::records::drop_translations_in(state, collection);
+        return Executed::Done;
+    }
+    if !is_listed(state, target) {
+        return Executed::NotDone(Refusal::ProcessorUnlisted);
+    }
+    let at = lent_tables::records::place_of_collection(state, collection);
+    if lent_tables::COLLECTION_RECORDS <= at {
+        return Executed::NotDone(Refusal::TableFull);
+    }
+    let r = ItsCollection {
+        collection: collection,
+        target: target,
+        used: true,
+    };
+    lent_tables::put_collection(state, at, r);
+    Executed::Done
+}
+
+// LPI in 8192..limit.
+fn lpi_in_range(state: &Numbers, lpi: LpiId) -> bool
+    ensures { λ r. ⌜ r ≡ lpiInRange (configIn (now (state .entry))) lpi ⌝ }
+{
+    let limit = state[lent_tables::LPI_LIMIT] % 0x1_0000_0000;
+    (8192 <= lpi.0) & (lpi.0 as u64 <= limit)
+}
+
+pub fn map_translation(
+    state: &mut Numbers,
+    device: ItsDeviceId,
+    event: EventId,
+    lpi: LpiId,
+    collection: CollectionId,
+) -> Executed
+    ensures { λ r. ⌜ Carries (now (state .entry)) (Mapti device event lpi collection) r (now (state .exit)) ⌝ }
+{
+    if !lpi_in_range(state, lpi) {
+        return Executed::NotDone(Refusal::LpiOutOfRange);
+    }
+    let d = lent_tables::records::find_device(state, device);
+    if lent_tables::DEVICE_RECORDS <= d {
+        return Executed::NotDone(Refusal::DeviceUnmapped);
+    }
+    let holder = lent_tables::records::device_at(state, d);
+    if !words::event_below(holder.event_bits, event) {
+        return Executed::NotDone(Refusal::EventBeyondBits);
+    }
+    let c = lent_tables::records::find_collection(state, collection);
+    if lent_tables::COLLECTION_RECORDS <= c {
+        return Executed::NotDone(Refusal::CollectionUnmapped);
+    }
+    let at = lent_tables::records::place_of_pair(state, device, event);
+    if lent_tables::PAIR_RECORDS <= at {
+        return Executed::NotDone(Refusal::TableFull);
+    }
+    let r = Translation {
+        device: device,
+        event: event,
+        lpi: lpi,
+        collection: collection,
+        used: true,
+    };
+    lent_tables::put_translation(state, at, r);
+    Executed::Done
+}

@@ -1,0 +1,5 @@
+pub mod Words
+pub mod Running
+pub mod Queued
+pub mod SmallNumbers
+pub mod ReadBack
