@@ -1,9 +1,9 @@
 -- A LATER WRITE TRIES THE FAILING COMMAND AGAIN: a write that runs its queue begins with the command on which CREADR stands.
 -- Assumes nothing.
-use Prim.Native.Nat.{ℕ, suc, _+_, _-_, _≤_, _<_}
+use Prim.Native.Nat.{ℕ, suc, _+_, _-_}
 use native.Mathlib.Omega.{arith}
 use mathlib.Core.Path.{_≡_, refl, sym, ap, ap₂, _∙_}
-use mathlib.Core.Bool.{Bool, true, false}
+use mathlib.Core.Bool.{true, false}
 use mathlib.Core.List.{List, _++_}
 use mathlib.Core.Option.{Option, none, some}
 use Rattle.model.specs.declared.ItsRegisters.{ItsRegisters}
@@ -14,23 +14,25 @@ use Rattle.model.specs.declared.Command.the-variants.{Mapd, Mapc, Mapti, Mapi, 
 use Rattle.model.specs.declared.Decoded.{Decoded}
 use Rattle.model.specs.declared.Decoded.the-variants.{Known, Unknown}
 use Rattle.model.specs.declared.Refusal.the-variants.{NotInWindow}
+use Rattle.model.specs.declared.RegisterWrite.{RegisterWrite}
 use Rattle.model.specs.declared.Written.{Written}
 use Rattle.model.specs.Choose.{ifFound, listOf}
 use Rattle.model.specs.Config.{queueBase}
 use Rattle.model.specs.Decode.{opcodeOf, decode}
 use Rattle.model.specs.Step.{deliveryIn, checkMapping, check}
-use Rattle.model.specs.Queue.{Window, commandAt, commandAddress, waiting, Turn, passes, stays, judged, turnOn, turn, withRegisters, carryOut, Ran, goOn, run}
-use Rattle.model.specs.Entry.{Outcome, afterRun}
-use Rattle.model.specs.Reached.{commandsPassed}
-use Rattle.model.specs.Demand3.{registersStored}
+use Rattle.model.specs.With.{withRegisters}
+use Rattle.model.specs.Queue.{Window, commandAt, commandAddress, waiting, Turn, passes, stays, judged, turnOn, turn, carryOut, Ran, goOn, run}
+use Rattle.model.specs.Writing.{going}
+use Rattle.model.specs.Entry.{Outcome, afterRun, stores}
+use Rattle.model.specs.Passed.{commandsPassed}
 use Rattle.model.proofs.Cases.{never}
 use Rattle.model.proofs.Ring.{reader-below, past-below}
 use Rattle.model.proofs.Turns.{passing, carried-registers, passed-first, passed-same}
 use Rattle.model.proofs.Runs.{run-keeps}
 use Rattle.model.proofs.Answers.{done-of}
+use Rattle.model.proofs.Ways.{Stored, Way, checked, no-base, no-writer, quiet, based, off, over, ran, way}
 use Rattle.its.specs.Contracts.{Writes}
 use Rattle.guarantees.specs.Retries.{Tries, BeginsWith, TriesAgain}
-use Rattle.guarantees.proofs.Ways.{Going, Way, checked, no-base, no-writer, quiet, off, over, ran, way}
 
 -- The command at CREADR has the same turn whatever the other registers are.
 module _ (u : ItsState) (s : ItsRegisters) where
@@ -68,11 +70,11 @@ module _ (u : ItsState) (s : ItsRegisters) where
 
 module _ (w : Window) (row : List ItsAction) (u : ItsState) (offset width value : ℕ) where
   -- The run of one command and m more, by the turn of the first.
-  module _ (s : ItsRegisters) (g : Going w row u offset width value s) (m : ℕ) where
+  module _ (s : ItsRegisters) (g : Stored w row u offset width value s) (m : ℕ) where
     abbrev after : Turn → Ran
     after t = goOn (withRegisters u s) t (run w m)
 
-    first-accepted : (x : Command) → turn w (withRegisters u s) ≡ passes x → BeginsWith w u s (afterRun (after (passes x)) row .written) x
+    first-accepted : (x : Command) → turn w (withRegisters u s) ≡ passes x → BeginsWith w u (going s) (afterRun (after (passes x)) row .written) x
     first-accepted x t =
         let v = carryOut (withRegisters u s) x in
         let q = run w m v in
@@ -81,6 +83,7 @@ module _ (w : Window) (row : List ItsAction) (u : ItsState) (offset width value 
         let k = run-keeps w m v (rw past (past-below s)) in
         record {
           later = commandsPassed w (v .registers) (q .done);
+          handed = q .actions;
           first =
               ap (commandsPassed w (u .registers)) (done-of (after (passes x)) (q .stopped))
               ∙ (sym (passed-same w s (u .registers) (g .base) (g .reader) (suc (q .done)))
@@ -88,7 +91,7 @@ module _ (w : Window) (row : List ItsAction) (u : ItsState) (offset width value 
           follow = k .carried;
         }
 
-    by-turn : (t : Turn) → turn w (withRegisters u s) ≡ t → TriesAgain w row u s (afterRun (after t) row .written) (afterRun (after t) row .row)
+    by-turn : (t : Turn) → turn w (withRegisters u s) ≡ t → TriesAgain w row u (going s) (afterRun (after t) row .written) (afterRun (after t) row .row)
     by-turn t e =
         let same : turn w u ≡ t = sym (turn-same u s w (g .base) (g .reader)) ∙ e in
         record {
@@ -96,20 +99,20 @@ module _ (w : Window) (row : List ItsAction) (u : ItsState) (offset width value 
           accepts = λ x h. let it : t ≡ passes x = sym same ∙ h in rw it (first-accepted x (e ∙ it));
         }
 
-  by-way : {s : ItsRegisters} {base runs : Bool} {o : Outcome} → Way w row u offset width value s base runs o → runs ≡ true → s .enabled ≡ true → 0 < waiting s →
-      waiting s ≤ u .config .«command_budget» → TriesAgain w row u s (o .written) (o .row)
-  by-way (checked why c) r on some-wait few = never true refl (sym r)
-  by-way no-base r on some-wait few = never true refl (sym r)
-  by-way (no-writer at) r on some-wait few = never true refl (sym r)
-  by-way (quiet s base) r on some-wait few = never true refl (sym r)
-  by-way (off s g out) r on some-wait few = never (s .enabled) on out
-  by-way (over s g yes-on more) r on some-wait few = absurd (omega arith)
-  by-way (ran s g yes-on within) r on some-wait few =
+  by-way : {s : RegisterWrite} {o : Outcome} → Way w row u offset width value s o → Tries u s → TriesAgain w row u s (o .written) (o .row)
+  by-way (checked why c) t = never true refl (sym (t .lets-run))
+  by-way (no-base sound) t = never true refl (sym (t .lets-run))
+  by-way (no-writer sound at) t = never true refl (sym (t .lets-run))
+  by-way (quiet s g) t = never true refl (sym (t .lets-run))
+  by-way (based s c k z) t = never true refl (sym (t .lets-run))
+  by-way (off s g out) t = never (s .enabled) (t .enabled) out
+  by-way (over s g on more) t = absurd (omega (arith, t .within, more))
+  by-way (ran s g on within) t =
       let m = waiting s - 1 in
-      let one-more : waiting s ≡ suc m = omega arith in
+      let one-more : waiting s ≡ suc m = omega (arith, t .waits) in
       rw one-more (by-turn s g m (turn w (withRegisters u s)) refl)
 
   -- THE THEOREM, of any unit.
-  pub tries-again : (r : Written) (left : List ItsAction) → Writes w row u offset width value r left → Tries u row offset width value →
-      TriesAgain w row u (registersStored u row offset width value) r left
-  tries-again r left e t = rw (e .0, e .1) (by-way (way w row u offset width value) (t .lets-run) (t .enabled) (t .waits) (t .within))
+  pub tries-again : (r : Written) (left : List ItsAction) → Writes w row u offset width value r left → Tries u (stores row u offset width value) →
+      TriesAgain w row u (stores row u offset width value) r left
+  tries-again r left e t = rw (e .answer, e .row-left) (by-way (way w row u offset width value) t)

@@ -1,11 +1,14 @@
 -- ALL THAT IS GUARANTEED holds.
 -- Assumes nothing.
 use Rattle.guarantees.specs.Theorems.{Theorems}
-use Rattle.guarantees.proofs.Firmness.{firm-entries, answered-entries, lent-writes}
-use Rattle.guarantees.proofs.InForce.{mappings-in-force}
-use Rattle.guarantees.proofs.ByCalls.{calls-in-force}
-use Rattle.guarantees.proofs.Counts.{write-keeps, done-count}
-use Rattle.guarantees.proofs.Leaves.{row-keeps, refusal-leaves, read-leaves, translate-leaves}
+use Rattle.guarantees.proofs.InForce.{mappings-in-force, actions-given}
+use Rattle.guarantees.proofs.ByCalls.{led-by-calls, calls-in-force, call-actions-given}
+use Rattle.guarantees.proofs.ExampleLed.{example-by-entries, example-by-calls}
+use Rattle.guarantees.proofs.Along.{actions-firm}
+use Rattle.guarantees.proofs.Firmness.{firm-entries, answered-entries}
+use Rattle.guarantees.proofs.AsWrites.{lent-writes, call-writes}
+use Rattle.guarantees.proofs.Kept.{ring-kept, commands-kept}
+use Rattle.guarantees.proofs.Leaves.{refusal-kept, refusal-leaves, read-leaves, translate-leaves}
 use Rattle.guarantees.proofs.Unsound.{unsound-answers-1, no-unit-answers-1, refused-configuration}
 use Rattle.guarantees.proofs.Again.{tries-again}
 use Rattle.guarantees.proofs.Later.{tried-later}
@@ -15,12 +18,19 @@ theorems =
     record {
       mappings-in-force = mappings-in-force;
       calls-in-force = calls-in-force;
+      led-by-calls = led-by-calls;
+      example-by-entries = example-by-entries;
+      example-by-calls = example-by-calls;
+      actions-given = actions-given;
+      call-actions-given = call-actions-given;
+      actions-firm = actions-firm;
       answered-entries = answered-entries;
       firm-entries = firm-entries;
       lent-writes = lent-writes;
-      write-keeps = write-keeps;
-      done-count = done-count;
-      row-keeps = row-keeps;
+      call-writes = call-writes;
+      ring-kept = ring-kept;
+      commands-kept = commands-kept;
+      refusal-kept = refusal-kept;
       refusal-leaves = refusal-leaves;
       read-leaves = read-leaves;
       translate-leaves = translate-leaves;

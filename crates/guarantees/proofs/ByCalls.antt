@@ -1,31 +1,47 @@
 -- DEMAND 3 over the contracts of the C calls: each call is one of the entry of the same name, so calls lead where the entries lead, and what a
--- translation tells are the numbers of the entry's answer.
+-- call tells are the numbers of the entry's answer.
 -- Assumes nothing.
-use Prim.Native.Nat.{ℕ}
+use Prim.Native.Nat.{ℕ, zero, suc}
 use native.Mathlib.Omega.{arith}
 use mathlib.Core.Path.{_≡_, refl, sym, ap, ap₂, subst, _∙_}
 use mathlib.Core.List.{List, [], _∷_, _++_, map}
 use mathlib.Core.Logic.{_↔_}
-use lib.ListN.{getD}
+use lib.ListN.{getD, take}
 use Rattle.model.specs.declared.ItsDeviceId.{ItsDeviceId}
 use Rattle.model.specs.declared.EventId.{EventId}
 use Rattle.model.specs.declared.ItsConfig.{ItsConfig}
 use Rattle.model.specs.declared.ItsState.{ItsState}
 use Rattle.model.specs.declared.Command.{Command}
 use Rattle.model.specs.declared.Verdict.the-variants.{Accepted}
+use Rattle.model.specs.declared.Refusal.the-variants.{Unsound, ResourceNotFound}
+use Rattle.model.specs.declared.ReadAnswer.{ReadAnswer}
+use Rattle.model.specs.declared.ReadAnswer.the-variants.{Value, NoValue}
+use Rattle.model.specs.declared.WriteAnswer.{WriteAnswer}
+use Rattle.model.specs.declared.WriteAnswer.the-variants.{Taken, NotTaken}
 use Rattle.model.specs.declared.TranslateAnswer.{TranslateAnswer}
 use Rattle.model.specs.declared.TranslateAnswer.the-variants.{Delivered, NotDelivered}
-use Rattle.model.specs.declared.Refusal.the-variants.{ResourceNotFound}
 use Rattle.model.specs.Config.{soundConfig}
 use Rattle.model.specs.Keys.{delivery}
-use Rattle.model.specs.Refusal.{verdictNumber}
-use Rattle.model.specs.Reached.{commandsPassed}
-use Rattle.model.specs.Entry.{configure, read, translate, write}
+use Rattle.model.specs.Refusal.{verdictNumber, readNumbers, writeNumbers, translateNumbers}
+use Rattle.model.specs.Queue.{Window}
+use Rattle.model.specs.Entry.{configure, read, translate}
+use Rattle.model.specs.Passed.{commandsPassed}
 use Rattle.model.proofs.Cases.{cases}
-use Rattle.host.specs.Calls.{actionIn, numbersOfTranslation}
-use Rattle.guarantees.specs.MappingsInForce.{Led, begins, a-read, a-translation, a-write}
-use Rattle.guarantees.specs.CallsInForce.{LedByCalls, its-configure, its-read, its-translate, its-write, CallsInForce}
-use Rattle.guarantees.proofs.InForce.{mappings-in-force}
+use Rattle.its.specs.Contracts.{Reads, Translates}
+use Rattle.host.specs.Calls.{Tells, actionIn, numbersOfWrite, numbersOfTranslation}
+use Rattle.guarantees.specs.Actions.{passedTold, intsAndClears, ActionsOf, ActionsGiven, CallActionsGiven}
+use Rattle.guarantees.specs.MappingsInForce.{Led, begins, a-read, a-translation, a-write, MappingsInForce}
+use Rattle.guarantees.specs.CallsInForce.{LedByCalls, its-configure, its-read, its-translate, its-write, OfCallsTo, CallsInForce}
+use Rattle.guarantees.proofs.Reasons.{not-zero, one}
+use Rattle.guarantees.proofs.AsWrites.{call-writes}
+use Rattle.guarantees.proofs.InForce.{mappings-in-force, actions-given}
+
+-- the answers that a call of its_read and of its_translate tell
+reads-as : (u : ItsState) (offset width : ℕ) → Reads u offset width (read u offset width)
+reads-as u offset width = record { answer = refl; numbers = refl }
+
+translates-as : (u : ItsState) (d : ItsDeviceId) (e : EventId) → Translates u d e (translate u d e)
+translates-as u d e = record { answer = refl; numbers = refl }
 
 -- a configuration whose number is 0 was accepted
 accepted : (k : ItsConfig) → verdictNumber (configure k .verdict) ≡ 0 → configure k .verdict ≡ Accepted
@@ -36,15 +52,14 @@ accepted k h = cases (soundConfig k) (λ e. rw e) (λ e. absurd (omega (arith, r
 pub led-by-calls : {k : ItsConfig} {u : ItsState} {h : List Command} → LedByCalls k u h → Led k u h
 led-by-calls {k} (its-configure limit budget frame ps s u r told c z) =
     subst (λ v. Led k v []) (sym (c .0 ∙ ap (λ a. configure a .unit) (sym s)))
-    (begins (configure k) refl (accepted k (ap (λ a. verdictNumber (configure a .verdict)) s ∙ sym (c .1 .1) ∙ z)))
-led-by-calls (its-read {u = u} l offset width r told c) = a-read (led-by-calls l) offset width (read u offset width) refl
+    (begins (configure k) (record { answer = refl; numbers = refl }) (accepted k (ap (λ a. verdictNumber (configure a .verdict)) s ∙ sym (c .1 .1) ∙ z)))
+led-by-calls (its-read {u = u} l offset width r told c) = a-read (led-by-calls l) offset width (read u offset width) (reads-as u offset width)
 led-by-calls (its-translate {u = u} l device event r told c) =
-    a-translation (led-by-calls l) (record { 0 = device }) (record { 0 = event }) (translate u (record { 0 = device }) (record { 0 = event })) refl
+    a-translation (led-by-calls l) (record { 0 = device }) (record { 0 = event }) (translate u (record { 0 = device }) (record { 0 = event })) (translates-as u _ _)
 led-by-calls {k} (its-write {u = u} {h = h} l w row offset width value left after r told c) =
-    let o = write w (map actionIn row) u offset width value in
-    subst (λ v. Led k v (commandsPassed w (u .registers) (getD told 3 0) ++ h)) (sym (c .0))
-    (subst (λ t. Led k (o .written .unit) (commandsPassed w (u .registers) (getD t 3 0) ++ h)) (sym (c .1 .1 .0))
-    (a-write (led-by-calls l) w (map actionIn row) offset width value (o .written) (o .row) (refl, refl)))
+    let (a, (x, t)) = call-writes w row u offset width value left after r told c in
+    subst (λ d. Led k left (passedTold w u d ++ h)) (sym (t .0))
+    (a-write (led-by-calls l) w (map actionIn row) offset width value (record { unit = left; answer = a }) (map actionIn after) x)
 
 -- what a translation tells, of an answer that is delivered or refused with 8
 told-delivered : (a : TranslateAnswer) (told : List ℕ) → told ≡ numbersOfTranslation a → ((why : _) → a ≡ NotDelivered why → why ≡ ResourceNotFound) →
@@ -66,19 +81,72 @@ told-refused (NotDelivered why) told t n = (λ q. ap NotDelivered (n why refl), 
 through : {A B C : Type 0} → A ↔ B → B ↔ C → A ↔ C
 through f g = (λ a. g .0 (f .0 a), λ c. f .1 (g .1 c))
 
--- THE THEOREM.
-pub calls-in-force : {k : ItsConfig} {u : ItsState} {h : List Command} → LedByCalls k u h → CallsInForce k u h
-calls-in-force {u = u} l =
-    let m = mappings-in-force (led-by-calls l) in
+-- what the number 1 says of an answer, and what the number 0 says of a write
+read-1 : (a : ReadAnswer) → readNumbers a .refusal ≡ 1 → a ≡ NoValue Unsound
+read-1 (Value v) h = absurd (omega arith)
+read-1 (NoValue why) h = ap NoValue (one why h)
+
+translation-1 : (a : TranslateAnswer) → translateNumbers a .refusal ≡ 1 → a ≡ NotDelivered Unsound
+translation-1 (Delivered x) h = absurd (omega arith)
+translation-1 (NotDelivered why) h = ap NotDelivered (one why h)
+
+write-1 : (a : WriteAnswer) → writeNumbers a .refusal ≡ 1 → (opcode : ℕ) × (at : ℕ) × (done : ℕ) × (a ≡ NotTaken Unsound opcode at done)
+write-1 (Taken done actions) h = absurd (omega arith)
+write-1 (NotTaken why opcode at done) h = (opcode, at, done, ap (λ z. NotTaken z opcode at done) (one why h))
+
+write-0 : (a : WriteAnswer) → writeNumbers a .refusal ≡ 0 → a ≡ Taken (writeNumbers a .done) (writeNumbers a .actions)
+write-0 (Taken done actions) h = refl
+write-0 (NotTaken why opcode at done) h = absurd (not-zero why h)
+
+map-take : {A B : Type 0} (f : A → B) (n : ℕ) (l : List A) → map f (take n l) ≡ take n (map f l)
+map-take f zero l = refl
+map-take f (suc n) [] = refl
+map-take f (suc n) (a ∷ l) = ap (λ t. f a ∷ t) (map-take f n l)
+
+-- the actions, in the numbers of the row
+module _ (h : List Command) (w : Window) (u left : ItsState) (after : List ℕ) (r : ℕ) (told : List ℕ) (a : WriteAnswer) (t : Tells (numbersOfWrite a) r told)
+    (given : ActionsGiven h w u (record { unit = left; answer = a }) (map actionIn after)) where
+  row-told : ActionsOf h (passedTold w u told) (map actionIn (take (intsAndClears (passedTold w u told)) after))
+  row-told = rw (t .0, map-take actionIn (intsAndClears (commandsPassed w (u .registers) (writeNumbers a .done))) after) (given .in-row)
+
+  handed-told : r ≡ 0 → ActionsOf h (passedTold w u told) (map actionIn (take (getD told 4 0) after))
+  handed-told z =
+      rw (t .0, map-take actionIn (writeNumbers a .actions) after)
+      (given .handed-over (writeNumbers a .done) (writeNumbers a .actions) (write-0 a (sym (t .1) ∙ z)))
+
+  actions-told : CallActionsGiven h w u after r told
+  actions-told = record { in-row = row-told; handed-over = handed-told }
+
+-- what is demanded of a unit, in the numbers told
+calls-told : {k : ItsConfig} {u : ItsState} {h : List Command} → MappingsInForce k u h → CallsInForce k u h
+calls-told {u = u} m =
     record {
       demand = m;
       translates = λ device event r told c lpi processor.
           let d : ItsDeviceId = record { 0 = device } in
           let e : EventId = record { 0 = event } in
-          through (told-delivered (translate u d e) told (c .0) (m .only-8 d e (translate u d e) refl) lpi processor)
-          (m .translates d e (translate u d e) refl (record { 0 = lpi }) (record { 0 = processor }));
+          through (told-delivered (translate u d e) told (c .0) (m .only-8 d e (translate u d e) (translates-as u d e)) lpi processor)
+          (m .translates d e (translate u d e) (translates-as u d e) (record { 0 = lpi }) (record { 0 = processor }));
       nowhere = λ device event r told c.
           let d : ItsDeviceId = record { 0 = device } in
           let e : EventId = record { 0 = event } in
-          through (told-refused (translate u d e) told (c .0) (m .only-8 d e (translate u d e) refl)) (m .nowhere d e (translate u d e) refl);
+          through (told-refused (translate u d e) told (c .0) (m .only-8 d e (translate u d e) (translates-as u d e))) (m .nowhere d e (translate u d e) (translates-as u d e));
+      reads = λ offset width r told c z. m .reads offset width _ (reads-as u offset width) (read-1 (read u offset width) (sym (c .1) ∙ z));
+      messages = λ device event r told c z.
+          let d : ItsDeviceId = record { 0 = device } in
+          let e : EventId = record { 0 = event } in
+          m .messages d e _ (translates-as u d e) (translation-1 (translate u d e) (sym (c .1) ∙ z));
+      writes = λ w row offset width value left after r told c z.
+          let (a, (x, t)) = call-writes w row u offset width value left after r told c in
+          let (opcode, at, done, q) = write-1 a (sym (t .1) ∙ z) in
+          m .writes w (map actionIn row) offset width value _ _ x opcode at done q;
     }
+
+-- THE THEOREMS.
+pub calls-in-force : {k : ItsConfig} {u : ItsState} {h : List Command} → LedByCalls k u h → CallsInForce k u h
+calls-in-force l = calls-told (mappings-in-force (led-by-calls l))
+
+pub call-actions-given : {k : ItsConfig} {u : ItsState} {h : List Command} → LedByCalls k u h → OfCallsTo u (CallActionsGiven h)
+call-actions-given {u = u} {h = h} l w row offset width value left after r told c =
+    let (a, (x, t)) = call-writes w row u offset width value left after r told c in
+    actions-told h w u left after r told a t (actions-given (led-by-calls l) w (map actionIn row) offset width value _ _ x)

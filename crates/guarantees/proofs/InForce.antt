@@ -1,53 +1,59 @@
--- DEMAND 3 over the contracts: calls whose answers meet the contracts are accesses of the model, so what the model's theorem says of the definitions
--- holds of every such answer.
+-- DEMAND 3 over the contracts: what every access keeps (model: Held) is kept by every answer that meets the contracts, so it holds of every unit to which
+-- calls led; and from it follows what is demanded.
 -- Assumes nothing.
-use mathlib.Core.Path.{refl, sym, ap, subst, _∙_}
+use mathlib.Core.Path.{_≡_, refl, sym, ap, subst, _∙_}
+use mathlib.Core.Bool.{true}
 use mathlib.Core.List.{List, [], _++_}
 use Rattle.model.specs.declared.ItsConfig.{ItsConfig}
 use Rattle.model.specs.declared.ItsState.{ItsState}
 use Rattle.model.specs.declared.Command.{Command}
-use Rattle.model.specs.Refusal.{writeNumbers}
-use Rattle.model.specs.Reached.{Reached, configured, reads, translates, writes, commandsPassed}
-use Rattle.model.specs.Entry.{configure, read, translate, write}
-use Rattle.model.specs.Corners.{withLimit, exampleMet}
-use Rattle.model.proofs.Demand3.{demand-3}
-use Rattle.model.proofs.ReachedExample.{example-reached}
-use Rattle.guarantees.specs.MappingsInForce.{Led, begins, a-read, a-translation, a-write, MappingsInForce}
+use Rattle.model.specs.declared.Refusal.the-variants.{Unsound, ResourceNotFound}
+use Rattle.model.specs.Entry.{stores}
+use Rattle.model.proofs.Cases.{never}
+use Rattle.model.proofs.Held.{Held, configured-held, write-held, promised, translates, nowhere, only-8, no-read-1}
+use Rattle.guarantees.specs.Actions.{passedBy, ActionsGiven}
+use Rattle.guarantees.specs.Kept.{RingKept, CommandsKept, RefusalKept}
+use Rattle.guarantees.specs.MappingsInForce.{Led, begins, a-read, a-translation, a-write, OfWritesTo, MappingsInForce}
+use Rattle.guarantees.proofs.Kept.{ring-kept, commands-kept}
+use Rattle.guarantees.proofs.Leaves.{refusal-kept}
+use Rattle.guarantees.proofs.Along.{actions-held}
 
--- a unit to which calls led is one that accesses reach, with the same history
-pub reached : {k : ItsConfig} {u : ItsState} {h : List Command} → Led k u h → Reached k u h
-reached {k} (begins c e a) = subst (λ z. Reached k (z .unit) []) (sym e) (configured (ap (λ z. z .verdict) (sym e) ∙ a))
-reached (a-read l offset width r e) = reads (reached l) offset width
-reached (a-translation l d e r q) = translates (reached l) d e
-reached {k} (a-write {u = u} {h = h} l w row offset width value r left e) =
-    subst (λ z. Reached k (z .unit) (commandsPassed w (u .registers) (writeNumbers (z .answer) .done) ++ h)) (sym (e .0))
-    (writes (reached l) w row offset width value)
+-- a unit to which calls led agrees with the history
+pub held : {k : ItsConfig} {u : ItsState} {h : List Command} → Led k u h → Held k u h
+held {k} (begins c e a) = subst (λ z. Held k (z .unit) []) (sym (e .answer)) (configured-held k (ap (λ z. z .verdict) (sym (e .answer)) ∙ a))
+held (a-read l offset width r e) = held l
+held (a-translation l d e r q) = held l
+held {k} (a-write {u = u} {h = h} l w row offset width value r left e) =
+    subst (λ z. Held k (z .unit) (passedBy w u z ++ h)) (sym (e .answer)) (write-held (held l) w row offset width value)
 
--- and the other way round: the calls of `Led` are no fewer
-pub led : {k : ItsConfig} {u : ItsState} {h : List Command} → Reached k u h → Led k u h
-led {k} (configured a) = begins (configure k) refl a
-led (reads {u = u} l offset width) = a-read (led l) offset width (read u offset width) refl
-led (translates {u = u} l d e) = a-translation (led l) d e (translate u d e) refl
-led (writes {u = u} l w row offset width value) =
-    let o = write w row u offset width value in
-    a-write (led l) w row offset width value (o .written) (o .row) (refl, refl)
-
--- so the demand is not empty: 01's example is such a run, and the commands carried out are its four
-pub example-led : (u : ItsState) × Led (withLimit 65535) u exampleMet
-example-led = (_, led example-reached)
-
--- THE THEOREM.
-pub mappings-in-force : {k : ItsConfig} {u : ItsState} {h : List Command} → Led k u h → MappingsInForce k u h
-mappings-in-force l =
-    let m = demand-3 (reached l) in
+-- so what is demanded holds of it, with what every write keeps
+demanded : {k : ItsConfig} {u : ItsState} {h : List Command} → Held k u h → OfWritesTo u (λ w row offset width value r left. RingKept u (stores row u offset width value) r) →
+    OfWritesTo u (λ w row offset width value r left. CommandsKept w row u (stores row u offset width value) r left) →
+    OfWritesTo u (λ w row offset width value r left. RefusalKept w row u (stores row u offset width value) r left) → MappingsInForce k u h
+demanded m ring commands refusals =
     record {
       config = m .config;
       sound = m .sound;
-      translates = λ d e r q x p. rw q (m .translates d e x p);
-      nowhere = λ d e r q. rw q (m .nowhere d e);
-      only-8 = λ d e r q why h. m .only-8 d e why (sym q ∙ h);
-      numbers = λ d e r q why h. rw (h, m .only-8 d e why (sym q ∙ h)) refl;
-      backed = m .backed;
-      reads = λ offset width r q h. m .reads offset width (sym q ∙ h);
-      writes = λ w row offset width value r left q. rw (q .0, q .1) (m .writes w row offset width value);
+      translates = λ d e r q x p. rw (q .answer) (translates m d e x p);
+      nowhere = λ d e r q. rw (q .answer) (nowhere m d e);
+      only-8 = λ d e r q why h. only-8 m d e why (sym (q .answer) ∙ h);
+      numbers = λ d e r q why h. rw (h, only-8 m d e why (sym (q .answer) ∙ h)) refl;
+      backed = promised m .backed;
+      reads = λ offset width r q h. no-read-1 m offset width (sym (q .answer) ∙ h);
+      messages = λ d e r q h. let eight : Unsound ≡ ResourceNotFound = only-8 m d e Unsound (sym (q .answer) ∙ h) in never true refl (cc);
+      writes = λ w row offset width value r left e. refusals w row offset width value r left e .never-1 (m .sound);
+      ring = ring;
+      commands = commands;
+      refusals = refusals;
     }
+
+-- THE THEOREMS.
+pub mappings-in-force : {k : ItsConfig} {u : ItsState} {h : List Command} → Led k u h → MappingsInForce k u h
+mappings-in-force {u = u} l =
+    let m = held l in
+    demanded m (λ w row offset width value r left e. ring-kept w row u offset width value r left e (m .sound))
+    (λ w row offset width value r left e. commands-kept w row u offset width value r left e)
+    (λ w row offset width value r left e. refusal-kept w row u offset width value r left e)
+
+pub actions-given : {k : ItsConfig} {u : ItsState} {h : List Command} → Led k u h → OfWritesTo u (λ w row offset width value r left. ActionsGiven h w u r left)
+actions-given l = actions-held (held l)

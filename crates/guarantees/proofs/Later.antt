@@ -1,7 +1,7 @@
 -- AFTER A WRITE THAT WAS REFUSED BECAUSE OF THE COMMAND AT CREADR a later write tries it again, and with the same window a CTLR write that enables is
 -- refused in the same way.
 -- Assumes nothing.
-use Prim.Native.Nat.{ℕ, _-_, _≤_}
+use Prim.Native.Nat.{ℕ, _≤_}
 use native.Mathlib.Omega.{arith}
 use mathlib.Core.Path.{_≡_, refl, sym, ap, ap₂, _∙_}
 use mathlib.Core.Bool.{true, _&&_, _||_}
@@ -19,10 +19,12 @@ use Rattle.model.specs.declared.WriteAnswer.the-variants.{NotTaken}
 use Rattle.model.specs.declared.Written.{Written}
 use Rattle.model.specs.Arm.{GITS-CTLR, LPI-base}
 use Rattle.model.specs.Config.{processorsOf, noneTwice, soundConfig, soundUnit}
-use Rattle.model.specs.Queue.{Window, withRegisters}
-use Rattle.model.specs.Register.{registerAt, withEnabled, enables}
-use Rattle.model.specs.Entry.{checkAccess, checkWrite}
-use Rattle.model.specs.Demand3.{registersStored, letsRun}
+use Rattle.model.specs.With.{withRegisters, withEnabled}
+use Rattle.model.specs.Queue.{Window}
+use Rattle.model.specs.Register.{registerAt}
+use Rattle.model.specs.Access.{checkAccess, checkWrite}
+use Rattle.model.specs.Writing.{going, enables, toCtlr, registerWrite}
+use Rattle.model.specs.Entry.{stores}
 use Rattle.model.proofs.Cases.{cases, and-left, and-right}
 use Rattle.its.specs.Contracts.{Writes}
 use Rattle.guarantees.specs.Refusals.{at-command, givenAt}
@@ -54,18 +56,17 @@ unfolding registerAt
 at-ctlr = refl
 
 module _ (u : ItsState) (row : List ItsAction) (value : ℕ) (sound : soundUnit u ≡ true) (room : u .config .«command_budget» ≤ length row) where
-  accepted : checkWrite u row GITS-CTLR 4 ≡ Accepted
+  accepted : checkWrite (u .config) (u .registers) (length row) GITS-CTLR 4 ≡ Accepted
+  unfolding checkWrite
   accepted = rw (sound, le-leb (u .config .«command_budget») (length row) room) (ctlr-taken (u .config) (and-left (soundConfig (u .config)) _ sound))
 
-  ctlr-stores : registersStored u row GITS-CTLR 4 value ≡ withEnabled (u .registers) (enables value)
-  ctlr-stores = rw (accepted, at-ctlr)
-
-  ctlr-lets-run : letsRun u row GITS-CTLR 4 value ≡ true
-  ctlr-lets-run = rw (accepted, at-ctlr)
+  ctlr-goes : stores row u GITS-CTLR 4 value ≡ going (withEnabled (u .registers) (enables value))
+  unfolding registerWrite toCtlr
+  ctlr-goes = rw (accepted, at-ctlr)
 
   -- in an enabled unit, where it enables, all registers are as they were
-  ctlr-same : u .registers .enabled ≡ true → enables value ≡ true → registersStored u row GITS-CTLR 4 value ≡ u .registers
-  ctlr-same on again = ctlr-stores ∙ ap (withEnabled (u .registers)) (again ∙ sym on)
+  ctlr-same : u .registers .enabled ≡ true → enables value ≡ true → stores row u GITS-CTLR 4 value ≡ going (u .registers)
+  ctlr-same on again = ctlr-goes ∙ ap (λ b. going (withEnabled (u .registers) b)) (again ∙ sym on)
 
 -- THE THEOREM.
 module _ (w : Window) (row : List ItsAction) (u : ItsState) (offset width value : ℕ) (v : Written) (left : List ItsAction) (e : Writes w row u offset width value v left) where
@@ -77,12 +78,12 @@ module _ (w : Window) (row : List ItsAction) (u : ItsState) (offset width value 
         again = λ w′ row′ offset′ width′ value′ r left′ e′ t. tries-again w′ row′ (v .unit) offset′ width′ value′ r left′ e′ t;
         same = λ row′ value′ r left′ e′ room enabling.
             let same = ctlr-same (v .unit) row′ value′ (p .sound) room (p .enabled) enabling in
-            let t : Tries (v .unit) row′ GITS-CTLR 4 value′ = record {
-              lets-run = ctlr-lets-run (v .unit) row′ value′ (p .sound) room;
-              enabled = rw same (p .enabled);
-              waits = rw same (omega (arith, p .waits, p .waited));
-              within = rw same (omega (arith, p .waits, p .within));
+            let t : Tries (v .unit) (going (v .unit .registers)) = record {
+              lets-run = refl;
+              enabled = p .enabled;
+              waits = omega (arith, p .waits, p .waited);
+              within = omega (arith, p .waits, p .within);
             } in
-            let (answer, row-same) = tries-again w row′ (v .unit) GITS-CTLR 4 value′ r left′ e′ t .refuses why opcode (p .fails) in
-            (answer ∙ ap₂ (λ s a. record { unit = withRegisters (v .unit) s; answer = NotTaken why opcode a 0 }) same (sym (p .offset)), row-same);
+            let (answer, row-same) = tries-again w row′ (v .unit) GITS-CTLR 4 value′ r left′ e′ (rw same t) .refuses why opcode (p .fails) in
+            (answer ∙ ap₂ (λ s a. record { unit = withRegisters (v .unit) (s .registers); answer = NotTaken why opcode a 0 }) same (sym (p .offset)), row-same);
       }

@@ -1,5 +1,5 @@
 -- Which refusals come from where: a command that stays is refused for a command's reason, with its opcode; an access that fails its checks with 2 or
--- 3; a write before that with 1 or 10.
+-- 3; a write before that with 1 or 10, and a sound unit not with 1.
 -- Assumes nothing.
 use Prim.Native.Nat.{ℕ}
 use native.Mathlib.Omega.{arith}
@@ -8,7 +8,6 @@ use mathlib.Core.Bool.{Bool, true, false, not}
 use mathlib.Core.List.{List}
 use mathlib.Core.Option.{Option, none, some}
 use mathlib.Core.Logic.{_⊎_, inl, inr}
-use lib.ListN.{length}
 use lib.Dec.{leb}
 use Rattle.model.specs.declared.ItsDeviceId.{ItsDeviceId}
 use Rattle.model.specs.declared.EventId.{EventId}
@@ -16,13 +15,13 @@ use Rattle.model.specs.declared.CollectionId.{CollectionId}
 use Rattle.model.specs.declared.LpiId.{LpiId}
 use Rattle.model.specs.declared.ItsConfig.{ItsConfig}
 use Rattle.model.specs.declared.ItsState.{ItsState}
-use Rattle.model.specs.declared.ItsAction.{ItsAction}
 use Rattle.model.specs.declared.Command.{Command}
 use Rattle.model.specs.declared.Command.the-variants.{Mapd, Mapc, Mapti, Mapi, Movi, Int, Clear, Discard, Inv, Invall, Sync}
 use Rattle.model.specs.declared.Decoded.{Decoded}
 use Rattle.model.specs.declared.Decoded.the-variants.{Known, Unknown}
 use Rattle.model.specs.declared.Refusal.{Refusal}
-use Rattle.model.specs.declared.Refusal.the-variants.{Unsound, RowTooShort, InvalidAccess, Identification, BaseZero, WriterRefused, BudgetExceeded, NotInWindow, OpcodeUnknown, LpiOutOfRange, DeviceUnmapped, EventBeyondBits, CollectionUnmapped, PairUnmapped, ProcessorUnlisted, ResourceNotFound, TableFull, LineDoesNotFit}
+use Rattle.model.specs.declared.Refusal.the-variants.{Unsound, RowTooShort, InvalidAccess, Identification, BaseZero, WriterRefused, BudgetExceeded, NotInWindow}
+use Rattle.model.specs.declared.Refusal.the-variants.{OpcodeUnknown, LpiOutOfRange, DeviceUnmapped, EventBeyondBits, CollectionUnmapped, PairUnmapped, ProcessorUnlisted, ResourceNotFound, TableFull, LineDoesNotFit}
 use Rattle.model.specs.declared.Verdict.{Verdict}
 use Rattle.model.specs.declared.Verdict.the-variants.{Accepted, Refused}
 use Rattle.model.specs.Choose.{_or_then_, ifFound}
@@ -34,7 +33,8 @@ use Rattle.model.specs.Decode.{opcodeOf, decode}
 use Rattle.model.specs.Step.{lpiInRange, deviceMapped, eventFits, collectionMapped, pairMapped, pairTranslates, roomForDevice, roomForCollection, roomForPair, checkMapping, check}
 use Rattle.model.specs.Queue.{Window, commandAt, commandAddress, Turn, passes, stays, judged, turnOn, turn}
 use Rattle.model.specs.Register.{registerAt, takesWidth}
-use Rattle.model.specs.Entry.{inFrame, checkAccess, checkRead, checkWrite}
+use Rattle.model.specs.Access.{inFrame, checkAccess, checkRead, checkWrite}
+use Rattle.model.proofs.Cases.{never}
 use Rattle.guarantees.specs.Refusals.{at-entry, at-command, givenAt}
 
 -- if it is a refusal, it is one of which P holds
@@ -140,7 +140,8 @@ module _ (P : Refusal → Type 0) (two : P InvalidAccess) (three : P Identificat
 abbrev pub OfRead : Refusal → Type 0
 OfRead why = (why ≡ Unsound) ⊎ ((why ≡ InvalidAccess) ⊎ (why ≡ Identification))
 
-pub read-only : (u : ItsState) (offset width : ℕ) → Only OfRead (checkRead u offset width)
+pub read-only : (u : ItsState) (offset width : ℕ) → Only OfRead (checkRead (u .config) (u .registers) offset width)
+unfolding checkRead
 read-only u offset width =
     check-only OfRead (soundUnit u) Unsound _ (inl refl) (access-only OfRead (inr (inl refl)) (inr (inr refl)) (u .config) offset width)
 
@@ -148,7 +149,62 @@ read-only u offset width =
 abbrev pub Entries : Refusal → Type 0
 Entries why = givenAt why ≡ at-entry
 
-pub write-only : (u : ItsState) (row : List ItsAction) (offset width : ℕ) → Only Entries (checkWrite u row offset width)
-write-only u row offset width =
-    check-only Entries (soundUnit u) Unsound _ refl
-    (check-only Entries (leb (u .config .«command_budget») (length row)) RowTooShort _ refl (access-only Entries refl refl (u .config) offset width))
+-- and those of a sound unit not with 1
+abbrev pub NotOne : Refusal → Type 0
+NotOne why = why ≡ Unsound → ⊥
+
+module _ (u : ItsState) (room offset width : ℕ) where
+  pub write-only : Only Entries (checkWrite (u .config) (u .registers) room offset width)
+  unfolding checkWrite
+  write-only =
+      check-only Entries (soundUnit u) Unsound _ refl
+      (check-only Entries (leb (u .config .«command_budget») room) RowTooShort _ refl (access-only Entries refl refl (u .config) offset width))
+
+  pub sound-only : soundUnit u ≡ true → Only NotOne (checkWrite (u .config) (u .registers) room offset width)
+  unfolding checkWrite
+  sound-only sound =
+      rw sound
+      (check-only NotOne (leb (u .config .«command_budget») room) RowTooShort _ (λ h. never true refl (cc))
+      (access-only NotOne (λ h. never true refl (cc)) (λ h. never true refl (cc)) (u .config) offset width))
+
+-- 0 is no refusal's number
+pub not-zero : (why : Refusal) → numberOf why ≡ 0 → ⊥
+not-zero Unsound h = omega arith
+not-zero RowTooShort h = omega arith
+not-zero InvalidAccess h = omega arith
+not-zero Identification h = omega arith
+not-zero BaseZero h = omega arith
+not-zero WriterRefused h = omega arith
+not-zero BudgetExceeded h = omega arith
+not-zero NotInWindow h = omega arith
+not-zero OpcodeUnknown h = omega arith
+not-zero LpiOutOfRange h = omega arith
+not-zero DeviceUnmapped h = omega arith
+not-zero EventBeyondBits h = omega arith
+not-zero CollectionUnmapped h = omega arith
+not-zero PairUnmapped h = omega arith
+not-zero ProcessorUnlisted h = omega arith
+not-zero ResourceNotFound h = omega arith
+not-zero TableFull h = omega arith
+not-zero LineDoesNotFit h = omega arith
+
+-- the number 1 is that of one reason
+pub one : (why : Refusal) → numberOf why ≡ 1 → why ≡ Unsound
+one Unsound h = refl
+one RowTooShort h = absurd (omega arith)
+one InvalidAccess h = absurd (omega arith)
+one Identification h = absurd (omega arith)
+one BaseZero h = absurd (omega arith)
+one WriterRefused h = absurd (omega arith)
+one BudgetExceeded h = absurd (omega arith)
+one NotInWindow h = absurd (omega arith)
+one OpcodeUnknown h = absurd (omega arith)
+one LpiOutOfRange h = absurd (omega arith)
+one DeviceUnmapped h = absurd (omega arith)
+one EventBeyondBits h = absurd (omega arith)
+one CollectionUnmapped h = absurd (omega arith)
+one PairUnmapped h = absurd (omega arith)
+one ProcessorUnlisted h = absurd (omega arith)
+one ResourceNotFound h = absurd (omega arith)
+one TableFull h = absurd (omega arith)
+one LineDoesNotFit h = absurd (omega arith)

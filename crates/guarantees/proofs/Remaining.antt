@@ -11,8 +11,8 @@ use Rattle.model.specs.declared.ItsRegisters.{ItsRegisters}
 use Rattle.model.specs.Arm.{command-size}
 use Rattle.model.specs.Config.{queueSize, soundRing}
 use Rattle.model.specs.Queue.{waiting}
-use Rattle.model.specs.Reached.{ringOffset}
-use Rattle.model.specs.Steps.{withReader}
+use Rattle.model.specs.With.{withReader}
+use Rattle.model.specs.Passed.{ringOffset}
 use Rattle.model.proofs.Cases.{cases}
 use Rattle.model.proofs.Waiting.{waiting-all, offset-once, reader-sound}
 

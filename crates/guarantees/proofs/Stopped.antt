@@ -1,35 +1,35 @@
--- What a run of the waiting commands leaves, from the unit with the value stored: what a write that ran its queue answers and hands over.
+-- What a run of the waiting commands leaves, from the unit with the value stored: where it stopped, and what it handed over.
 -- Assumes nothing.
-use Prim.Native.Nat.{ℕ, _+_, _≤_}
+use Prim.Native.Nat.{ℕ, _≤_}
 use native.Mathlib.Omega.{arith}
 use mathlib.Core.Path.{_≡_, refl, sym, ap, _∙_}
 use mathlib.Core.Bool.{true}
-use mathlib.Core.List.{List, [], _∷_, _++_}
+use mathlib.Core.List.{List}
 use mathlib.Core.Option.{Option, none, some}
-use lib.ListN.{length, drop, length-append, length-drop}
+use lib.ListN.{length}
 use Rattle.model.specs.declared.ItsRegisters.{ItsRegisters}
 use Rattle.model.specs.declared.ItsState.{ItsState}
 use Rattle.model.specs.declared.ItsAction.{ItsAction}
-use Rattle.model.specs.declared.Command.{Command}
-use Rattle.model.specs.declared.Command.the-variants.{Mapd, Mapc, Mapti, Mapi, Movi, Int, Clear, Discard, Inv, Invall, Sync}
 use Rattle.model.specs.declared.Refusal.{Refusal}
 use Rattle.model.specs.declared.WriteAnswer.the-variants.{Taken, NotTaken}
 use Rattle.model.specs.Refusal.{writeNumbers}
+use Rattle.model.specs.With.{withRegisters}
 use Rattle.model.specs.Config.{soundConfig}
-use Rattle.model.specs.Queue.{Window, waiting, withRegisters, Stop, Ran, run}
+use Rattle.model.specs.Queue.{Window, waiting, Stop, Ran, run}
+use Rattle.model.specs.Writing.{going}
 use Rattle.model.specs.Entry.{answerOf, afterRun}
-use Rattle.model.specs.Reached.{commandsPassed}
+use Rattle.model.specs.Passed.{ringOffset, commandsPassed}
 use Rattle.model.proofs.Cases.{never, both}
 use Rattle.model.proofs.Ring.{reader-below}
-use Rattle.model.proofs.Waiting.{reader-sound}
+use Rattle.model.proofs.Waiting.{waiting-all, reader-sound}
 use Rattle.model.proofs.Turns.{offset-same, passed-same}
 use Rattle.model.proofs.Runs.{RunKeeps, run-keeps}
-use Rattle.model.proofs.Answers.{answerFor, done-of, stop-of}
-use Rattle.guarantees.specs.Handed.{handsOver, intsAndClears, RowKeeps}
+use Rattle.model.proofs.Answers.{answerFor, done-of, stop-of, taken-of}
+use Rattle.model.proofs.Ways.{Stored}
 use Rattle.guarantees.specs.Refusals.{at-command, givenAt, StopsAt}
+use Rattle.guarantees.specs.Kept.{CommandsKept}
 use Rattle.guarantees.proofs.Reasons.{staying}
-use Rattle.guarantees.proofs.Hands.{as-many, RunHands, run-hands}
-use Rattle.guarantees.proofs.Ways.{Going}
+use Rattle.guarantees.proofs.Counted.{as-many, no-more, fits}
 use Rattle.guarantees.proofs.Remaining.{waiting-after}
 
 -- what is handed over where the write is taken
@@ -37,74 +37,56 @@ count-of : (q : Ran) (o : Option Stop) (done actions : ℕ) → answerFor q o �
 count-of q none done actions h = cc
 count-of q (some s) done actions h = never true refl (cc)
 
--- a command has at most one action
-one-at-most : (x : Command) → handsOver x ≤ 1
-one-at-most (Mapd d bits valid) = omega arith
-one-at-most (Mapc c p valid) = omega arith
-one-at-most (Mapti d e l c) = omega arith
-one-at-most (Mapi d e c) = omega arith
-one-at-most (Movi d e c) = omega arith
-one-at-most (Int d e) = omega arith
-one-at-most (Clear d e) = omega arith
-one-at-most (Discard d e) = omega arith
-one-at-most (Inv d e) = omega arith
-one-at-most (Invall c) = omega arith
-one-at-most Sync = omega arith
-
-no-more : (h : List Command) → intsAndClears h ≤ length h
-no-more [] = omega arith
-no-more (x ∷ h) = omega (arith, one-at-most x, no-more h)
-
--- the actions in the row
-fits : (handed row : List ItsAction) → length handed ≤ length row → length (handed ++ drop (length handed) row) ≡ length row
-fits handed row l = length-append handed (drop (length handed) row) ∙ omega (arith, length-drop (length handed) row)
-
-module _ (w : Window) (row : List ItsAction) (u : ItsState) (offset width value : ℕ) (s : ItsRegisters) (g : Going w row u offset width value s) (on : s .enabled ≡ true) (within : waiting s ≤ u .config .«command_budget») where
+module _ (w : Window) (row : List ItsAction) (u : ItsState) (offset width value : ℕ) (s : ItsRegisters) (g : Stored w row u offset width value s)
+    (on : s .enabled ≡ true) (within : waiting s ≤ u .config .«command_budget») where
   abbrev q : Ran
   q = run w (waiting s) (withRegisters u s)
 
   keeps : RunKeeps w (waiting s) (withRegisters u s) q
   keeps = run-keeps w (waiting s) (withRegisters u s) (reader-below s (g .ring))
 
-  hands : RunHands w (waiting s) (withRegisters u s) q
-  hands = run-hands w (waiting s) (withRegisters u s) (reader-below s (g .ring))
-
   -- CBASER and CREADR are as before the write
   passed : (n : ℕ) → commandsPassed w (u .registers) n ≡ commandsPassed w s n
   passed n = sym (passed-same w s (u .registers) (g .base) (g .reader) n)
 
-  -- it stopped
-  pub stops : (why : Refusal) (opcode at done : ℕ) → answerOf q ≡ NotTaken why opcode at done →
-      (givenAt why ≡ at-command) × StopsAt w row u (afterRun q row .written) (afterRun q row .row) opcode at done s why
-  stops why opcode at done h =
-      let (stop, place) = stop-of q (q .stopped) why opcode at done h in
-      let number : done ≡ q .done = sym (ap (λ a. writeNumbers a .done) h) ∙ done-of q (q .stopped) in
-      let (kind, read) = staying (q .unit) w why opcode (keeps .refused _ stop) in (
-        kind,
+  -- It stopped: the command on which CREADR stands is refused, for one of a command's reasons.
+  module _ (why : Refusal) (opcode at done : ℕ) (h : answerOf q ≡ NotTaken why opcode at done) where
+    pub stop-kind : givenAt why ≡ at-command
+    stop-kind = staying (q .unit) w why opcode (keeps .refused _ (stop-of q (q .stopped) why opcode at done h .0)) .0
+
+    pub stops : StopsAt w row u (afterRun q row .written) (afterRun q row .row) opcode at done s why
+    stops =
+        let (stop, place) = stop-of q (q .stopped) why opcode at done h in
+        let number : done ≡ q .done = sym (ap (λ a. writeNumbers a .done) h) ∙ done-of q (q .stopped) in
         record {
           handed = q .actions;
-          earlier = rw (number, passed (q .done)) (hands .handed);
+          earlier = rw (number, passed (q .done)) (keeps .carried);
           row-left = refl;
           offset = place;
           reader = rw number (ap (λ r. r .creadr) (keeps .registers) ∙ offset-same w s (u .registers) (g .base) (g .reader) (q .done));
-          waited = rw number (hands .fewer _ stop);
+          waited = rw number (keeps .fewer _ stop);
           waits = rw (number, keeps .registers) (waiting-after s (g .ring) (q .done) (keeps .at-most));
           within = rw (keeps .config) within;
           sound = rw (keeps .config, keeps .registers) (both (soundConfig (u .config)) _ (g .sound) (reader-sound s (g .ring) (q .done) (keeps .at-most)));
           enabled = rw (keeps .registers) on;
           fails = keeps .refused _ stop;
-          opcode-read = read;
-        },
-      )
+          opcode-read = staying (q .unit) w why opcode (keeps .refused _ stop) .1;
+        }
 
-  -- the row, stopped or not
-  pub row-ran : RowKeeps w row u s (afterRun q row .written) (afterRun q row .row)
-  row-ran =
+  -- it did not stop: no command is left
+  pub none-left : (done actions : ℕ) → answerOf q ≡ Taken done actions → q .unit .registers .creadr ≡ s .cwriter
+  none-left done actions h =
+      ap (λ r. r .creadr) (keeps .registers) ∙ (ap (ringOffset s) (keeps .all (taken-of q (q .stopped) done actions h)) ∙ waiting-all s (g .ring))
+
+  -- stopped or not
+  pub commands-run : CommandsKept w row u (going s) (afterRun q row .written) (afterRun q row .row)
+  commands-run =
       let number : writeNumbers (answerOf q) .done ≡ q .done = done-of q (q .stopped) in
-      let count = as-many (hands .handed) in
+      let count = as-many (keeps .carried) in
       record {
+        shown = rw (number, passed (q .done)) (keeps .shown);
         handed = q .actions;
-        of-commands = rw (number, passed (q .done)) (hands .handed);
+        carried = rw (number, passed (q .done)) (keeps .carried);
         as-many = rw (number, passed (q .done)) count;
         in-row = refl;
         room = fits (q .actions) row (omega (arith, count, no-more (commandsPassed w s (q .done)), keeps .shown, keeps .at-most, within, g .room));

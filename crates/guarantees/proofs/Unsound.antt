@@ -9,20 +9,22 @@ use Rattle.model.specs.declared.Refusal.{Refusal}
 use Rattle.model.specs.declared.Refusal.the-variants.{Unsound}
 use Rattle.model.specs.declared.Verdict.the-variants.{Accepted, Refused}
 use Rattle.model.specs.declared.Configured.{Configured}
-use Rattle.model.specs.Choose.{if_then_else_, _or_then_}
+use Rattle.model.specs.Choose.{if_then_else_}
 use Rattle.model.specs.Config.{soundConfig, soundUnit, freshUnit, noUnit}
-use Rattle.model.specs.Entry.{configure, read, translate, write}
+use Rattle.model.specs.Access.{checkRead, checkWrite}
+use Rattle.model.specs.Writing.{registerWrite}
+use Rattle.model.specs.Entry.{configure, readFrom, translate, write}
 use Rattle.model.proofs.Cases.{never}
 use Rattle.its.specs.Contracts.{NoUnit, Configures}
 use Rattle.guarantees.specs.Refusals.{AnswersOne}
 
 pub unsound-answers-1 : (u : ItsState) → soundUnit u ≡ false → AnswersOne u
-unfolding read translate write
+unfolding readFrom translate write checkRead checkWrite registerWrite
 unsound-answers-1 u no-ring =
     record {
-      reads = λ offset width r e. e ∙ rw no-ring;
-      translates = λ d e r q. q ∙ rw no-ring;
-      writes = λ w row offset width value r left e. (e .0 ∙ rw no-ring, e .1 ∙ rw no-ring);
+      reads = λ offset width r e. e .answer ∙ rw no-ring;
+      translates = λ d e r q. q .answer ∙ rw no-ring;
+      writes = λ w row offset width value r left e. (e .answer ∙ rw no-ring, e .row-left ∙ rw no-ring);
     }
 
 no-unit-unsound : soundUnit noUnit ≡ false
@@ -44,5 +46,5 @@ refused-gives false k c e why h =
 pub refused-configuration : (k : ItsConfig) (c : Configured) → Configures k c → (why : Refusal) → c .verdict ≡ Refused why → (why ≡ Unsound) × AnswersOne (c .unit)
 unfolding configure
 refused-configuration k c e why h =
-    let (one, none) = refused-gives (soundConfig k) k c e why h in
+    let (one, none) = refused-gives (soundConfig k) k c (e .answer) why h in
     (one, no-unit-answers-1 (c .unit) none)

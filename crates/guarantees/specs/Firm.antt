@@ -18,6 +18,7 @@ use Rattle.model.specs.Entry.{Outcome}
 use Rattle.its.specs.declared.WrittenRow.{WrittenRow}
 use Rattle.its.specs.Contracts.{NoUnit, Configures, Reads, Writes, WritesLent, Translates}
 use Rattle.trace.specs.Traced.{Traced}
+use Rattle.lent_tables.specs.Numbers.{unitIn}
 use Rattle.host.specs.Calls.{CallConfigures, CallReads, CallWrites, CallTranslates}
 
 -- some answer meets the contract: no input is left out
@@ -42,22 +43,22 @@ TracedBoth trace out o = Traced trace out (o .number) (o .output)
 
 -- what comes back from a C call for hosts: the number returned, the numbers told, and, from those that are lent the unit to change it, the unit and
 -- the row that are left
-pub record Told : Type 0 where
+pub record CallAnswer : Type 0 where
   pub number : ℕ
   pub told : List ℕ
 
-pub record ToldWithUnit : Type 0 where
+pub record CallAnswerUnit : Type 0 where
   pub number : ℕ
   pub told : List ℕ
   pub unit : ItsState
 
-pub record ToldWithRow : Type 0 where
+pub record CallAnswerRow : Type 0 where
   pub number : ℕ
   pub told : List ℕ
   pub unit : ItsState
   pub row : List ℕ
 
-abbrev pub CallWritesAll : Window → List ℕ → ItsState → ℕ → ℕ → ℕ → ToldWithRow → Type 0
+abbrev pub CallWritesAll : Window → List ℕ → ItsState → ℕ → ℕ → ℕ → CallAnswerRow → Type 0
 CallWritesAll w row u offset width value o = CallWrites w row u offset width value (o .unit) (o .row) (o .number) (o .told)
 
 -- P of the contract of every public entry, at all inputs. One field an entry.
@@ -77,11 +78,10 @@ pub record OfEveryEntry (P : (A : Type 0) → (A → Type 0) → Type 0) : Type 
   -- `its_trace`, the C call, returns a number and leaves an output
   pub «its_trace» : (trace out : List ℕ) → P TraceOutcome (TracedBoth trace out)
   -- `its_configure` returns a number, tells five and leaves a unit
-  pub «its_configure» : (limit budget frame : ℕ) (ps : List ℕ) → P ToldWithUnit (λ o. CallConfigures limit budget frame ps (o .unit) (o .number) (o .told))
+  pub «its_configure» : (limit budget frame : ℕ) (ps : List ℕ) → P CallAnswerUnit (λ o. CallConfigures limit budget frame ps (o .unit) (o .number) (o .told))
   -- `its_read` returns a number and tells five; the unit is lent to be read only
-  pub «its_read» : (u : ItsState) (offset width : ℕ) → P Told (λ o. CallReads u offset width (o .number) (o .told))
-  -- `its_write` returns a number, tells five, and leaves a unit and a row
-  pub «its_write» : (w : Window) (row : List ℕ) (u : ItsState) (offset width value : ℕ) →
-      P ToldWithRow (CallWritesAll w row u offset width value)
+  pub «its_read» : (u : ItsState) (offset width : ℕ) → P CallAnswer (λ o. CallReads u offset width (o .number) (o .told))
+  -- `its_write` returns a number, tells five, and leaves a unit and a row; s are the numbers that are lent to it
+  pub «its_write» : (w : Window) (row s : List ℕ) (offset width value : ℕ) → P CallAnswerRow (CallWritesAll w row (unitIn s) offset width value)
   -- `its_translate` returns a number and tells five; the unit is lent to be read only
-  pub «its_translate» : (u : ItsState) (device event : ℕ) → P Told (λ o. CallTranslates u device event (o .number) (o .told))
+  pub «its_translate» : (u : ItsState) (device event : ℕ) → P CallAnswer (λ o. CallTranslates u device event (o .number) (o .told))

@@ -1,8 +1,9 @@
 pub mod Firm
+pub mod Actions
+pub mod Refusals
+pub mod Kept
 pub mod MappingsInForce
 pub mod CallsInForce
-pub mod Handed
-pub mod DoneCount
-pub mod Refusals
 pub mod Retries
+pub mod ExampleCalls
 pub mod Theorems

@@ -21,19 +21,21 @@ use Rattle.model.specs.declared.Refusal.the-variants.{Unsound, ResourceNotFound
 use Rattle.model.specs.declared.Verdict.the-variants.{Accepted}
 use Rattle.model.specs.declared.ReadAnswer.{ReadAnswer}
 use Rattle.model.specs.declared.ReadAnswer.the-variants.{NoValue}
+use Rattle.model.specs.declared.WriteAnswer.the-variants.{NotTaken}
 use Rattle.model.specs.declared.TranslateAnswer.{TranslateAnswer}
 use Rattle.model.specs.declared.TranslateAnswer.the-variants.{Delivered, NotDelivered}
 use Rattle.model.specs.declared.Configured.{Configured}
 use Rattle.model.specs.declared.Written.{Written}
-use Rattle.model.specs.Refusal.{translateNumbers, writeNumbers}
+use Rattle.model.specs.Refusal.{translateNumbers}
 use Rattle.model.specs.Keys.{delivery}
 use Rattle.model.specs.Config.{soundUnit}
 use Rattle.model.specs.Queue.{Window}
+use Rattle.model.specs.Entry.{stores}
 use Rattle.model.specs.Paragraph.{InForce}
 use Rattle.model.specs.Promise.{SentTo, Backed}
-use Rattle.model.specs.Reached.{commandsPassed}
-use Rattle.model.specs.Demand3.{registersStored, storesBase, letsRun, WriteKeeps}
 use Rattle.its.specs.Contracts.{Configures, Reads, Writes, Translates}
+use Rattle.guarantees.specs.Actions.{passedBy}
+use Rattle.guarantees.specs.Kept.{RingKept, CommandsKept, RefusalKept}
 
 -- `Led k u h`: from a unit configured with k, some calls, refused ones included, led to the unit u, and the commands carried out are h, the last
 -- one first. Every answer is one that meets the entry's contract.
@@ -47,7 +49,13 @@ pub data Led (k : ItsConfig) : ItsState → List Command → Type 0 where
   -- a write, with any window and any row, leads to the unit that it answers. The commands that it adds are read from the window at the old CREADR
   -- and on, as many as the answer says were done
   a-write : {u : ItsState} {h : List Command} → Led k u h → (w : Window) (row : List ItsAction) (offset width value : ℕ) (r : Written) (left : List ItsAction) →
-      Writes w row u offset width value r left → Led k (r .unit) (commandsPassed w (u .registers) (writeNumbers (r .answer) .done) ++ h)
+      Writes w row u offset width value r left → Led k (r .unit) (passedBy w u r ++ h)
+
+-- of every write to the unit u, with any window, row, offset, width and value, and of what it answers and leaves in the row
+abbrev pub OfWritesTo : ItsState → (Window → List ItsAction → ℕ → ℕ → ℕ → Written → List ItsAction → Type 0) → Type 0
+OfWritesTo u P =
+    (w : Window) (row : List ItsAction) (offset width value : ℕ) (r : Written) (left : List ItsAction) → Writes w row u offset width value r left →
+    P w row offset width value r left
 
 -- THE DEMAND, of the unit u to which the calls led and of the history h.
 pub record MappingsInForce (k : ItsConfig) (u : ItsState) (h : List Command) : Type 0 where
@@ -61,17 +69,18 @@ pub record MappingsInForce (k : ItsConfig) (u : ItsState) (h : List Command) : T
   -- it is refused with 8 exactly where the pair is not in force
   pub nowhere : (d : ItsDeviceId) (e : EventId) (r : TranslateAnswer) → Translates u d e r →
       (r ≡ NotDelivered ResourceNotFound) ↔ ((l : LpiId) (c : CollectionId) → InForce h d e l c → ⊥)
-  -- a translation has no other refusal, so never 1
+  -- a translation has no other refusal
   pub only-8 : (d : ItsDeviceId) (e : EventId) (r : TranslateAnswer) → Translates u d e r → (why : Refusal) → r ≡ NotDelivered why → why ≡ ResourceNotFound
   -- and the numbers of a refused one are 8, 0, 0
   pub numbers : (d : ItsDeviceId) (e : EventId) (r : TranslateAnswer) → Translates u d e r →
       (why : Refusal) → r ≡ NotDelivered why → translateNumbers r ≡ record { refusal = 8; lpi = 0; processor = 0 }
   -- of each pair in force the LPI is in range, device and collection are mapped, and the processor is listed
   pub backed : (d : ItsDeviceId) (e : EventId) (l : LpiId) (c : CollectionId) → InForce h d e l c → Backed k h d l c
-  -- a read never answers 1
+  -- 1 is never answered: by no read, no translation and no write
   pub reads : (offset width : ℕ) (r : ReadAnswer) → Reads u offset width r → r ≡ NoValue Unsound → ⊥
-  -- every write, whatever the window, the row, the offset, the width and the value: the configuration stays; every command passed lay whole in the
-  -- window, is of one of the kinds and passed its checks; CREADR passed exactly those; 1 is never answered (crates/model/specs/Demand3.antt)
-  pub writes : (w : Window) (row : List ItsAction) (offset width value : ℕ) (r : Written) (left : List ItsAction) → Writes w row u offset width value r left →
-      WriteKeeps w u (registersStored u row offset width value) (storesBase u row offset width value) (letsRun u row offset width value)
-      (record { written = r; row = left })
+  pub messages : (d : ItsDeviceId) (e : EventId) (r : TranslateAnswer) → Translates u d e r → r ≡ NotDelivered Unsound → ⊥
+  pub writes : OfWritesTo u (λ w row offset width value r left. (opcode at done : ℕ) → r .answer ≡ NotTaken Unsound opcode at done → ⊥)
+  -- every write keeps what is said of the ring, of the commands passed and of its refusal (Kept)
+  pub ring : OfWritesTo u (λ w row offset width value r left. RingKept u (stores row u offset width value) r)
+  pub commands : OfWritesTo u (λ w row offset width value r left. CommandsKept w row u (stores row u offset width value) r left)
+  pub refusals : OfWritesTo u (λ w row offset width value r left. RefusalKept w row u (stores row u offset width value) r left)

@@ -13,7 +13,8 @@ use Rattle.model.specs.declared.ItsState.{ItsState}
 use Rattle.model.specs.declared.ItsAction.{ItsAction}
 use Rattle.model.specs.declared.Register.the-variants.{Cwriter}
 use Rattle.model.specs.declared.Refusal.{Refusal}
-use Rattle.model.specs.declared.Refusal.the-variants.{Unsound, RowTooShort, InvalidAccess, Identification, BaseZero, WriterRefused, BudgetExceeded, NotInWindow, OpcodeUnknown, LpiOutOfRange, DeviceUnmapped, EventBeyondBits, CollectionUnmapped, PairUnmapped, ProcessorUnlisted, ResourceNotFound, TableFull, LineDoesNotFit}
+use Rattle.model.specs.declared.Refusal.the-variants.{Unsound, RowTooShort, InvalidAccess, Identification, BaseZero, WriterRefused, BudgetExceeded, NotInWindow}
+use Rattle.model.specs.declared.Refusal.the-variants.{OpcodeUnknown, LpiOutOfRange, DeviceUnmapped, EventBeyondBits, CollectionUnmapped, PairUnmapped, ProcessorUnlisted, ResourceNotFound, TableFull, LineDoesNotFit}
 use Rattle.model.specs.declared.ReadAnswer.{ReadAnswer}
 use Rattle.model.specs.declared.ReadAnswer.the-variants.{NoValue}
 use Rattle.model.specs.declared.WriteAnswer.the-variants.{NotTaken}
@@ -22,14 +23,15 @@ use Rattle.model.specs.declared.TranslateAnswer.the-variants.{NotDelivered}
 use Rattle.model.specs.declared.Written.{Written}
 use Rattle.model.specs.Choose.{ifFound}
 use Rattle.model.specs.Refusal.{numberOf, readNumbers, translateNumbers, writeNumbers}
+use Rattle.model.specs.With.{withRegisters}
 use Rattle.model.specs.Config.{soundUnit}
 use Rattle.model.specs.Decode.{opcodeOf}
-use Rattle.model.specs.Queue.{Window, commandAt, commandAddress, waiting, stays, turn, withRegisters}
-use Rattle.model.specs.Register.{registerAt, valueWritten, writerTaken}
-use Rattle.model.specs.Reached.{ringOffset, commandsPassed}
-use Rattle.model.specs.Demand3.{registersStored}
+use Rattle.model.specs.Queue.{Window, commandAt, commandAddress, waiting, stays, turn}
+use Rattle.model.specs.Register.{registerAt, valueWritten}
+use Rattle.model.specs.Writing.{writerTaken}
+use Rattle.model.specs.Entry.{stores}
+use Rattle.model.specs.Passed.{ringOffset, commandsPassed, CarriedOut}
 use Rattle.its.specs.Contracts.{Reads, Writes, Translates}
-use Rattle.guarantees.specs.Handed.{HandedOver}
 
 -- Where a refusal is given.
 pub data Given : Type 0 where
@@ -110,7 +112,7 @@ module _ (w : Window) (row : List ItsAction) (u : ItsState) (r : Written) (left 
     -- the actions of the commands carried out before it
     pub handed : List ItsAction
     -- the register write stays stored and the earlier commands stay applied, as many as were done; that is all: the failing one changed nothing
-    pub earlier : HandedOver (withRegisters u s) (commandsPassed w (u .registers) done) handed (r .unit)
+    pub earlier : CarriedOut (withRegisters u s) (commandsPassed w (u .registers) done) handed (r .unit)
     -- the row's first records hold those actions though none is handed over, and the others are unchanged
     pub row-left : left ≡ handed ++ drop (length handed) row
     -- CREADR stays on the failing one, and is the offset answered
@@ -130,7 +132,7 @@ module _ (w : Window) (row : List ItsAction) (u : ItsState) (r : Written) (left 
 
 -- the writer that a CWRITER write brings: the merged value; with a nonzero CBASER its bits 19:0
 abbrev pub writerOf : ItsState → ℕ → ℕ → ℕ → ℕ
-writerOf u offset width value = writerTaken (u .registers) (valueWritten u offset width value Cwriter)
+writerOf u offset width value = writerTaken (u .registers) (valueWritten (u .config) (u .registers) offset width value Cwriter)
 
 -- WHAT A REFUSED WRITE LEAVES, number by number, whatever the unit, the window, the row, the offset, the width and the value.
 module _ (w : Window) (row : List ItsAction) (u : ItsState) (offset width value : ℕ) (r : Written) (left : List ItsAction) where
@@ -144,7 +146,7 @@ module _ (w : Window) (row : List ItsAction) (u : ItsState) (offset width value 
 
   -- stored, and stopped at the command on which CREADR stands
   abbrev pub Stopped : Refusal → ℕ → ℕ → ℕ → Type 0
-  Stopped why opcode at done = StopsAt w row u r left opcode at done (registersStored u row offset width value) why
+  Stopped why opcode at done = StopsAt w row u r left opcode at done (stores row u offset width value .registers) why
 
   pub record RefusalLeaves : Type 0 where
     -- 1: configuration or ring unsound
@@ -162,7 +164,7 @@ module _ (w : Window) (row : List ItsAction) (u : ItsState) (offset width value 
     -- 7 of a command, for each of its reasons
     pub by-7 : (why : Refusal) → numberOf why ≡ 7 → (why ≡ WriterRefused → ⊥) → Leaves why (Stopped why)
     -- 5: more commands wait than the budget
-    pub by-5 : Leaves BudgetExceeded (λ opcode at done. OnlyStored w row u r left opcode at done (registersStored u row offset width value))
+    pub by-5 : Leaves BudgetExceeded (λ opcode at done. OnlyStored w row u r left opcode at done (stores row u offset width value .registers))
     -- 6: command not in the window
     pub by-6 : Leaves NotInWindow (Stopped NotInWindow)
     -- 8: pair or its collection not mapped, of INT and CLEAR
@@ -171,8 +173,6 @@ module _ (w : Window) (row : List ItsAction) (u : ItsState) (offset width value 
     pub by-9 : Leaves TableFull (Stopped TableFull)
     -- 11 is the C call's: no write answers it
     pub by-11 : Leaves LineDoesNotFit (λ opcode at done. ⊥)
-    -- 6, 7, 8 and 9 in one: every refusal that is given at a command
-    pub at-a-command : (why : Refusal) → givenAt why ≡ at-command → Leaves why (Stopped why)
     -- actions is 0 with any refusal
     pub no-actions : (why : Refusal) → Leaves why (λ opcode at done. writeNumbers (r .answer) .actions ≡ 0)
 

@@ -5,47 +5,48 @@ use mathlib.Core.Path.{_≡_}
 use mathlib.Core.Bool.{true}
 use mathlib.Core.List.{List, [], _∷_, _++_}
 use lib.ListN.{length}
-use Rattle.model.specs.declared.ItsRegisters.{ItsRegisters}
 use Rattle.model.specs.declared.ItsState.{ItsState}
 use Rattle.model.specs.declared.ItsAction.{ItsAction}
 use Rattle.model.specs.declared.Command.{Command}
+use Rattle.model.specs.declared.RegisterWrite.{RegisterWrite}
 use Rattle.model.specs.declared.Refusal.{Refusal}
 use Rattle.model.specs.declared.WriteAnswer.the-variants.{NotTaken}
 use Rattle.model.specs.declared.Written.{Written}
 use Rattle.model.specs.Arm.{GITS-CTLR}
-use Rattle.model.specs.Queue.{Window, waiting, passes, stays, turn, withRegisters, carryOut}
-use Rattle.model.specs.Register.{enables}
-use Rattle.model.specs.Reached.{commandsPassed}
-use Rattle.model.specs.Steps.{CarriedOut}
-use Rattle.model.specs.Demand3.{registersStored, letsRun}
+use Rattle.model.specs.With.{withRegisters}
+use Rattle.model.specs.Queue.{Window, waiting, passes, stays, turn, carryOut}
+use Rattle.model.specs.Writing.{enables}
+use Rattle.model.specs.Entry.{stores}
+use Rattle.model.specs.Passed.{CarriedOut}
 use Rattle.its.specs.Contracts.{Writes}
-use Rattle.guarantees.specs.Handed.{doneIn}
+use Rattle.guarantees.specs.Actions.{passedBy}
 
--- The write tries its queue.
-pub record Tries (u : ItsState) (row : List ItsAction) (offset width value : ℕ) : Type 0 where
+-- The write tries its queue. s is what it does to the registers.
+pub record Tries (u : ItsState) (s : RegisterWrite) : Type 0 where
   -- a CTLR write or an accepted CWRITER write, not refused at the entry
-  pub lets-run : letsRun u row offset width value ≡ true
+  pub lets-run : s .runs ≡ true
   -- the unit is enabled then
-  pub enabled : registersStored u row offset width value .enabled ≡ true
+  pub enabled : s .registers .enabled ≡ true
   -- commands wait
-  pub waits : 0 < waiting (registersStored u row offset width value)
+  pub waits : 0 < waiting (s .registers)
   -- no more than the budget
-  pub within : waiting (registersStored u row offset width value) ≤ u .config .«command_budget»
+  pub within : waiting (s .registers) ≤ u .config .«command_budget»
 
 -- x is the first command that the write carried out.
-pub record BeginsWith (w : Window) (u : ItsState) (s : ItsRegisters) (r : Written) (x : Command) : Type 0 where
-  -- those that it carried out after x
+pub record BeginsWith (w : Window) (u : ItsState) (s : RegisterWrite) (r : Written) (x : Command) : Type 0 where
+  -- those that it carried out after x, and their actions
   pub later : List Command
+  pub handed : List ItsAction
   -- the commands passed are x and then these (the last one first)
-  pub first : commandsPassed w (u .registers) (doneIn r) ≡ later ++ x ∷ []
+  pub first : passedBy w u r ≡ later ++ x ∷ []
   -- x was carried out by the unit with the value stored, and the later ones from there
-  pub follow : CarriedOut (carryOut (withRegisters u s) x) later (r .unit)
+  pub follow : CarriedOut (carryOut (withRegisters u (s .registers)) x) later handed (r .unit)
 
 -- Such a write begins with the command on which CREADR stands, as its own window shows it.
-pub record TriesAgain (w : Window) (row : List ItsAction) (u : ItsState) (s : ItsRegisters) (r : Written) (left : List ItsAction) : Type 0 where
+pub record TriesAgain (w : Window) (row : List ItsAction) (u : ItsState) (s : RegisterWrite) (r : Written) (left : List ItsAction) : Type 0 where
   -- where the unit refuses it, that is the answer: its reason and opcode, CREADR, nothing done; only the register written changes
   pub refuses : (why : Refusal) (opcode : ℕ) → turn w u ≡ stays why opcode →
-      (r ≡ record { unit = withRegisters u s; answer = NotTaken why opcode (u .registers .creadr) 0 }) × (left ≡ row)
+      (r ≡ record { unit = withRegisters u (s .registers); answer = NotTaken why opcode (u .registers .creadr) 0 }) × (left ≡ row)
   -- where the unit accepts it, it is the first command carried out
   pub accepts : (x : Command) → turn w u ≡ passes x → BeginsWith w u s r x
 
@@ -55,7 +56,7 @@ pub record TriedLater (w : Window) (v : Written) (why : Refusal) (opcode offset 
   pub reader : v .unit .registers .creadr ≡ offset
   -- a later write that tries the queue, with any window, begins there
   pub again : (w′ : Window) (row : List ItsAction) (offset′ width value : ℕ) (r : Written) (left : List ItsAction) → Writes w′ row (v .unit) offset′ width value r left →
-      Tries (v .unit) row offset′ width value → TriesAgain w′ row (v .unit) (registersStored (v .unit) row offset′ width value) r left
+      Tries (v .unit) (stores row (v .unit) offset′ width value) → TriesAgain w′ row (v .unit) (stores row (v .unit) offset′ width value) r left
   -- with the same window, a CTLR write that enables is refused in the same way, and leaves unit and row as they are
   pub same : (row : List ItsAction) (value : ℕ) (r : Written) (left : List ItsAction) → Writes w row (v .unit) GITS-CTLR 4 value r left →
       v .unit .config .«command_budget» ≤ length row → enables value ≡ true →

@@ -1,10 +1,10 @@
--- ALL THAT IS GUARANTEED of the public entries, in one place: each field is a theorem over their contracts (crates/its/specs/Contracts.antt), for all
--- inputs. What a theorem concludes is said in the file that it is taken from. proofs/All.antt holds them all.
+-- ALL THAT IS GUARANTEED of the public entries, in one place: each field is a theorem over their contracts (crates/its/specs/Contracts.antt,
+-- crates/host/specs/Calls.antt), for all inputs. What a theorem concludes is said in the file that it is taken from. proofs/All.antt holds them all.
 -- Assumes nothing.
 use Prim.Native.Nat.{ℕ}
 use mathlib.Core.Path.{_≡_}
 use mathlib.Core.Bool.{true, false}
-use mathlib.Core.List.{List, _++_}
+use mathlib.Core.List.{List, _++_, map}
 use lib.ListN.{take, drop}
 use Rattle.model.specs.declared.ItsDeviceId.{ItsDeviceId}
 use Rattle.model.specs.declared.EventId.{EventId}
@@ -16,23 +16,26 @@ use Rattle.model.specs.declared.Refusal.{Refusal}
 use Rattle.model.specs.declared.Refusal.the-variants.{Unsound}
 use Rattle.model.specs.declared.Verdict.the-variants.{Refused}
 use Rattle.model.specs.declared.ReadAnswer.{ReadAnswer}
+use Rattle.model.specs.declared.WriteAnswer.{WriteAnswer}
 use Rattle.model.specs.declared.WriteAnswer.the-variants.{NotTaken}
 use Rattle.model.specs.declared.TranslateAnswer.{TranslateAnswer}
 use Rattle.model.specs.declared.Configured.{Configured}
 use Rattle.model.specs.declared.Written.{Written}
 use Rattle.model.specs.Config.{soundUnit}
 use Rattle.model.specs.Queue.{Window}
+use Rattle.model.specs.Entry.{stores}
 use Rattle.model.specs.Trace.{lentRow}
-use Rattle.model.specs.Demand3.{registersStored, storesBase, letsRun, WriteKeeps}
 use Rattle.its.specs.declared.WrittenRow.{WrittenRow}
 use Rattle.its.specs.Contracts.{NoUnit, Configures, Reads, Writes, WritesLent, Translates}
+use Rattle.host.specs.Calls.{Tells, numbersOfWrite, actionIn, CallWrites}
 use Rattle.guarantees.specs.Firm.{Answered, Firm, OfEveryEntry}
-use Rattle.guarantees.specs.CallsInForce.{LedByCalls, CallsInForce}
-use Rattle.guarantees.specs.MappingsInForce.{Led, MappingsInForce}
-use Rattle.guarantees.specs.Handed.{RowKeeps}
-use Rattle.guarantees.specs.DoneCount.{DoneCount}
+use Rattle.guarantees.specs.Actions.{ActionsOf, ActionsGiven, CallActionsGiven}
 use Rattle.guarantees.specs.Refusals.{at-command, givenAt, RefusalLeaves, ReadLeaves, TranslateLeaves, AnswersOne}
+use Rattle.guarantees.specs.Kept.{RingKept, CommandsKept, RefusalKept}
+use Rattle.guarantees.specs.MappingsInForce.{Led, OfWritesTo, MappingsInForce}
+use Rattle.guarantees.specs.CallsInForce.{LedByCalls, OfCallsTo, CallsInForce}
 use Rattle.guarantees.specs.Retries.{Tries, TriesAgain, TriedLater}
+use Rattle.guarantees.specs.ExampleCalls.{ExampleByEntries, ExampleByCalls}
 
 -- of every call of `write_its`, with any window, row, unit, offset, width and value, and of what it answers and leaves in the row
 abbrev pub OfEveryWrite : (Window → List ItsAction → ItsState → ℕ → ℕ → ℕ → Written → List ItsAction → Type 0) → Type 0
@@ -45,6 +48,17 @@ pub record Theorems : Type 0 where
   pub mappings-in-force : {k : ItsConfig} {u : ItsState} {h : List Command} → Led k u h → MappingsInForce k u h
   -- DEMAND 3 in the numbers that the C calls for hosts tell (CallsInForce): of all numbers to which such calls led
   pub calls-in-force : {k : ItsConfig} {u : ItsState} {h : List Command} → LedByCalls k u h → CallsInForce k u h
+  -- such calls lead where the entries lead
+  pub led-by-calls : {k : ItsConfig} {u : ItsState} {h : List Command} → LedByCalls k u h → Led k u h
+  -- NEITHER IS EMPTY: 01's example is such a run (ExampleCalls)
+  pub example-by-entries : ExampleByEntries
+  pub example-by-calls : ExampleByCalls
+  -- EACH ACTION HANDED OVER IS WHAT THE HISTORY GIVES (Actions): of every write to a unit to which calls led
+  pub actions-given : {k : ItsConfig} {u : ItsState} {h : List Command} → Led k u h → OfWritesTo u (λ w row offset width value r left. ActionsGiven h w u r left)
+  -- and of every call of its_write
+  pub call-actions-given : {k : ItsConfig} {u : ItsState} {h : List Command} → LedByCalls k u h → OfCallsTo u (CallActionsGiven h)
+  -- the history gives one list of actions
+  pub actions-firm : (h g : List Command) → Firm (List ItsAction) (ActionsOf h g)
   -- FIRMNESS (Firm): of every public entry, at all inputs, an answer meets the contract
   pub answered-entries : OfEveryEntry Answered
   -- and any second one is equal to it
@@ -52,15 +66,16 @@ pub record Theorems : Type 0 where
   -- `write_lent` is `write_its` with the first `room` of the 1,024 records of a row: what holds of every write holds of it, and the other records stay
   pub lent-writes : (w : Window) (room : ℕ) (u : ItsState) (offset width value : ℕ) (r : WrittenRow) → WritesLent w room u offset width value r →
       (left : List ItsAction) × (Writes w (take room lentRow) u offset width value (record { unit = r .unit; answer = r .answer }) left × (r .row ≡ left ++ drop room lentRow))
-  -- what demand 3 says of a write holds on every sound unit, also one that was built by hand (model: Demand3)
-  pub write-keeps : OfEveryWrite (λ w row u offset width value r left. soundUnit u ≡ true →
-      WriteKeeps w u (registersStored u row offset width value) (storesBase u row offset width value) (letsRun u row offset width value)
-      (record { written = r; row = left }))
-  -- DONE is CREADR's advance, on every sound unit (DoneCount)
-  pub done-count : OfEveryWrite (λ w row u offset width value r left. soundUnit u ≡ true →
-      DoneCount (u .registers) (registersStored u row offset width value) (storesBase u row offset width value) r)
-  -- THE ROW holds the actions of the commands carried out (Handed)
-  pub row-keeps : OfEveryWrite (λ w row u offset width value r left. RowKeeps w row u (registersStored u row offset width value) r left)
+  -- `its_write` is `write_its` with the row read as actions: what holds of every write holds of it, and the numbers told are those of the answer
+  pub call-writes : (w : Window) (row : List ℕ) (u : ItsState) (offset width value : ℕ) (left : ItsState) (after : List ℕ) (r : ℕ) (told : List ℕ) →
+      CallWrites w row u offset width value left after r told →
+      (a : WriteAnswer) × (Writes w (map actionIn row) u offset width value (record { unit = left; answer = a }) (map actionIn after) × Tells (numbersOfWrite a) r told)
+  -- WHAT A WRITE KEEPS (Kept). The ring, on every sound unit, also one that was built by hand: done is CREADR's advance
+  pub ring-kept : OfEveryWrite (λ w row u offset width value r left. soundUnit u ≡ true → RingKept u (stores row u offset width value) r)
+  -- the commands, on every unit: those carried out are those that the window shows, and the row holds their actions
+  pub commands-kept : OfEveryWrite (λ w row u offset width value r left. CommandsKept w row u (stores row u offset width value) r left)
+  -- refusal and answer, on every unit
+  pub refusal-kept : OfEveryWrite (λ w row u offset width value r left. RefusalKept w row u (stores row u offset width value) r left)
   -- WHAT A REFUSED WRITE LEAVES, number by number (Refusals)
   pub refusal-leaves : OfEveryWrite RefusalLeaves
   -- what a refused read leaves (Refusals)
@@ -74,8 +89,8 @@ pub record Theorems : Type 0 where
   -- and the one that a refused configuration gives; its refusal is 1
   pub refused-configuration : (k : ItsConfig) (c : Configured) → Configures k c → (why : Refusal) → c .verdict ≡ Refused why → (why ≡ Unsound) × AnswersOne (c .unit)
   -- A LATER WRITE TRIES AGAIN (Retries): one that runs the queue begins with the command on which CREADR stands
-  pub tries-again : OfEveryWrite (λ w row u offset width value r left. Tries u row offset width value →
-      TriesAgain w row u (registersStored u row offset width value) r left)
+  pub tries-again : OfEveryWrite (λ w row u offset width value r left. Tries u (stores row u offset width value) →
+      TriesAgain w row u (stores row u offset width value) r left)
   -- after a write that was refused because of that command
   pub tried-later : OfEveryWrite (λ w row u offset width value r left.
       (why : Refusal) → givenAt why ≡ at-command → (opcode at done : ℕ) → r .answer ≡ NotTaken why opcode at done → TriedLater w r why opcode at)

@@ -24,7 +24,7 @@ use Rattle.model.proofs.TableLaws.{look-found, look-passes}
 use Rattle.model.proofs.KeyLaws.{pair-device, pair-event, pair-has-device, pair-has-event}
 use Rattle.model.proofs.Effects.{targetIn, entryOf, entryIn}
 use Rattle.mappings.specs.declared.Mapping.{Mapping}
-use Rattle.mappings.specs.Mappings.{aMapping, noMapping, counts, placeOfPair, mappingOf, mappingAt, mappingsOf}
+use Rattle.mappings.specs.Mappings.{aMapping, noMapping, pairCounts, mappingOf, mappingAt, mappingsOf}
 use Rattle.mappings.specs.Listed.{_among_, howMany}
 use Rattle.mappings.proofs.Passing.{there, from, at-most-once}
 use Rattle.mappings.proofs.Counting.{counting-first, counting-look, looked-counts, looked-at}
@@ -38,20 +38,20 @@ module _ (u : ItsState) where
   -- Of the pairs.
 
   -- a record that stands for a mapping counts, and its collection is mapped
-  pub record Stands (i : ℕ) (r : Translation) : Type 0 where
-    pub counted : counts (placeOfPair u r) i ≡ true
+  pub record StandsForPair (i : ℕ) (r : Translation) : Type 0 where
+    pub counted : pairCounts u i r ≡ true
     pub collection : ItsCollection
     pub mapped : collectionOf u (r .collection) ≡ some collection
     pub mapping : mappingOf u i r ≡ aMapping (r .device) (r .event) (r .lpi) (r .collection) (collection .target)
 
-  standing : (i : ℕ) (r : Translation) → mappingOf u i r .«in_force» ≡ true → Stands i r
+  standing : (i : ℕ) (r : Translation) → mappingOf u i r .«in_force» ≡ true → StandsForPair i r
   standing i r t =
-      cases (counts (placeOfPair u r) i)
+      cases (pairCounts u i r)
       (λ s. go s (collectionOf u (r .collection)) refl (rw s at t))
       (λ s. never true refl (sym (rw s at t)))
     where
-      go : counts (placeOfPair u r) i ≡ true → (o : Option ItsCollection) → collectionOf u (r .collection) ≡ o →
-          ifFound o (λ k. aMapping (r .device) (r .event) (r .lpi) (r .collection) (k .target)) noMapping .«in_force» ≡ true → Stands i r
+      go : pairCounts u i r ≡ true → (o : Option ItsCollection) → collectionOf u (r .collection) ≡ o →
+          ifFound o (λ k. aMapping (r .device) (r .event) (r .lpi) (r .collection) (k .target)) noMapping .«in_force» ≡ true → StandsForPair i r
       go s none q z = never true refl (sym z)
       go s (some k) q z = record { counted = s; collection = k; mapped = q; mapping = rw (s, q) }
 
@@ -60,7 +60,7 @@ module _ (u : ItsState) where
     pub entry : entryIn u d e ≡ some (anEntry l c)
     pub target : targetIn u c ≡ some p
 
-  held : (i : ℕ) (r : Translation) → getD (u .translations) i noTranslation ≡ r → Stands i r → (d : ItsDeviceId) (e : EventId) (l : LpiId) (c : CollectionId) (p : GicVcpuId) →
+  held : (i : ℕ) (r : Translation) → getD (u .translations) i noTranslation ≡ r → StandsForPair i r → (d : ItsDeviceId) (e : EventId) (l : LpiId) (c : CollectionId) (p : GicVcpuId) →
       aMapping d e l c p ≡ mappingOf u i r → Holds d e l c p
   held i r at s d e l c p q =
       let m : aMapping d e l c p ≡ aMapping (r .device) (r .event) (r .lpi) (r .collection) (s .collection .target) = q ∙ s .mapping in
@@ -69,7 +69,7 @@ module _ (u : ItsState) where
       let ml : l ≡ r .lpi = ap (λ z. z .lpi) m in
       let mc : c ≡ r .collection = ap (λ z. z .collection) m in
       let mp : p ≡ s .collection .target = ap (λ z. z .target) m in
-      let found = counting-look (isPair (r .device) (r .event)) (λ a. a .used) (u .translations) i (s .counted) noTranslation in
+      let found = counting-look (isPair (r .device) (r .event)) (u .translations) i (s .counted) noTranslation in
       record { entry = rw (md, me, ml, mc, found, at); target = rw (mc, mp, s .mapped) }
 
   pub listed-held : (d : ItsDeviceId) (e : EventId) (l : LpiId) (c : CollectionId) (p : GicVcpuId) → aMapping d e l c p among mappingsOf u → Holds d e l c p
@@ -98,7 +98,7 @@ module _ (u : ItsState) where
         let re : r .event ≡ e = pair-has-event d e r passes in
         let rl : r .lpi ≡ l = ap (λ z. z .lpi) s in
         let rc : r .collection ≡ c = ap (λ z. z .collection) s in
-        rw (looked-at (isPair d e) (λ a. a .used) (u .translations) t noTranslation, rd, re, looked-counts (isPair d e) (λ a. a .used) (u .translations) t, rl, rc, q, w)
+        rw (looked-at (isPair d e) (u .translations) t noTranslation, rd, re, looked-counts (isPair d e) (u .translations) t, rl, rc, q, w)
 
     pub held-listed : aMapping d e l c p among mappingsOf u
     unfolding mappingsOf place
@@ -114,11 +114,11 @@ module _ (u : ItsState) where
   unfolding mappingAt
   only-place d e i t q = go (getD (u .translations) i noTranslation) (standing i (getD (u .translations) i noTranslation) t) q
     where
-      go : (r : Translation) → Stands i r → samePair (mappingOf u i r .device) (mappingOf u i r .event) d e ≡ true → i ≡ firstAt (isPair d e) (u .translations)
+      go : (r : Translation) → StandsForPair i r → samePair (mappingOf u i r .device) (mappingOf u i r .event) d e ≡ true → i ≡ firstAt (isPair d e) (u .translations)
       go r s q =
           let same : samePair (r .device) (r .event) d e ≡ true = rw (ap (λ z. z .device) (s .mapping), ap (λ z. z .event) (s .mapping)) at q in
           rw (← pair-device (r .device) (r .event) d e same, ← pair-event (r .device) (r .event) d e same)
-          (sym (counting-first (isPair (r .device) (r .event)) (λ a. a .used) (u .translations) i (s .counted)))
+          (sym (counting-first (isPair (r .device) (r .event)) (u .translations) i (s .counted)))
 
   pub pair-once : (d : ItsDeviceId) (e : EventId) → howMany (λ m. samePair (m .device) (m .event) d e) (mappingsOf u) ≤ 1
   unfolding mappingsOf

@@ -14,16 +14,16 @@ use Rattle.model.specs.declared.Command.{Command}
 use Rattle.model.specs.History.{anEntry, collectionNow, pairNow}
 use Rattle.model.specs.Paragraph.{InForce, ProcessorOf}
 use Rattle.model.proofs.Cases.{found}
-use Rattle.model.proofs.Demand3.{Kept, kept}
+use Rattle.model.proofs.Held.{Held}
 use Rattle.model.proofs.Mapped.{device-mapped, processor-of, mapped-processor}
 use Rattle.model.proofs.Paragraph.{in-force}
 use Rattle.guarantees.specs.MappingsInForce.{Led}
-use Rattle.guarantees.proofs.InForce.{reached}
+use Rattle.guarantees.proofs.InForce.{held}
 use Rattle.mappings.specs.Listed.{Listed}
 use Rattle.mappings.proofs.Holds.{Holds, listed-held, held-listed, only-in-force, pair-once}
 use Rattle.mappings.proofs.HoldsDevices.{listed-bits, bits-listed, only-used, device-once}
 
-module _ {k : ItsConfig} {u : ItsState} {h : List Command} (keeps : Kept k u h) where
+module _ {k : ItsConfig} {u : ItsState} {h : List Command} (keeps : Held k u h) where
   -- what the unit holds is what the commands put in force
   module _ (d : ItsDeviceId) (e : EventId) (l : LpiId) (c : CollectionId) (p : GicVcpuId) where
     in-history : Holds u d e l c p → InForce h d e l c × ProcessorOf h c p
@@ -54,4 +54,4 @@ module _ {k : ItsConfig} {u : ItsState} {h : List Command} (keeps : Kept k u h) 
       }
 
 pub listed-in-force : {k : ItsConfig} {u : ItsState} {h : List Command} → Led k u h → Listed u h
-listed-in-force l = kept-listed (kept (reached l))
+listed-in-force l = kept-listed (held l)

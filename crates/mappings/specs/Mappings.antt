@@ -3,7 +3,7 @@
 use Prim.Native.Nat.{ℕ, zero, suc}
 use mathlib.Core.Bool.{Bool, true, false, _&&_}
 use mathlib.Core.List.{List, [], _∷_}
-use lib.Dec.{eqb}
+use lib.Dec.{eqb, ltb}
 use lib.ListN.{length, getD}
 use Rattle.model.specs.declared.ItsDeviceId.{ItsDeviceId}
 use Rattle.model.specs.declared.EventId.{EventId}
@@ -13,9 +13,8 @@ use Rattle.model.specs.declared.GicVcpuId.{GicVcpuId}
 use Rattle.model.specs.declared.ItsDevice.{ItsDevice}
 use Rattle.model.specs.declared.Translation.{Translation}
 use Rattle.model.specs.declared.ItsState.{ItsState}
-use Rattle.model.specs.declared.Place.{Place}
 use Rattle.model.specs.Choose.{if_then_else_, ifFound}
-use Rattle.model.specs.Table.{placeOf}
+use Rattle.model.specs.Table.{firstAt}
 use Rattle.model.specs.Keys.{isDevice, isPair, noDevice, noTranslation}
 use Rattle.model.specs.Step.{collectionOf}
 use Rattle.mappings.specs.declared.Mapping.{Mapping}
@@ -36,22 +35,22 @@ noMapping =
       «in_force» = false;
     }
 
--- Record i counts if the search for its own key finds it: then it is used, and no lower-numbered one has the key.
-abbrev pub counts : Place → ℕ → Bool
-counts p i = p .found && eqb (p .at) i
+-- Record i of a table of so many records counts if the search for its own key ends there: then it is used, and no lower-numbered one has the key.
+abbrev pub counts : ℕ → ℕ → ℕ → Bool
+counts size first i = ltb first size && eqb first i
 
--- where the pair of a record is
-abbrev pub placeOfPair : ItsState → Translation → Place
-placeOfPair u r = placeOf (isPair (r .device) (r .event)) (λ a. a .used) (u .translations)
+-- Does record i of the translations, which is r, count?
+abbrev pub pairCounts : ItsState → ℕ → Translation → Bool
+pairCounts u i r = counts (length (u .translations)) (firstAt (isPair (r .device) (r .event)) (u .translations)) i
 
--- where the device of a record is
-abbrev pub placeOfDevice : ItsState → ItsDevice → Place
-placeOfDevice u r = placeOf (isDevice (r .device)) (λ a. a .used) (u .devices)
+-- Does record i of the devices, which is r?
+abbrev pub deviceCounts : ItsState → ℕ → ItsDevice → Bool
+deviceCounts u i r = counts (length (u .devices)) (firstAt (isDevice (r .device)) (u .devices)) i
 
 -- what the record r, which is record i of the translations, stands for: a pair whose collection is mapped
 abbrev pub mappingOf : ItsState → ℕ → Translation → Mapping
 mappingOf u i r =
-    if counts (placeOfPair u r) i
+    if pairCounts u i r
     then ifFound (collectionOf u (r .collection)) (λ k. aMapping (r .device) (r .event) (r .lpi) (r .collection) (k .target)) noMapping
     else noMapping
 
@@ -59,11 +58,11 @@ unfoldable pub mappingAt : ItsState → ℕ → Mapping
 mappingAt u i = mappingOf u i (getD (u .translations) i noTranslation)
 
 -- what the record r, which is record i of the devices, stands for
-abbrev pub deviceIn : ItsState → ℕ → ItsDevice → ItsDevice
-deviceIn u i r = if counts (placeOfDevice u r) i then r else noDevice
+abbrev pub mappedDevice : ItsState → ℕ → ItsDevice → ItsDevice
+mappedDevice u i r = if deviceCounts u i r then r else noDevice
 
-unfoldable pub deviceAt : ItsState → ℕ → ItsDevice
-deviceAt u i = deviceIn u i (getD (u .devices) i noDevice)
+unfoldable pub mappedAt : ItsState → ℕ → ItsDevice
+mappedAt u i = mappedDevice u i (getD (u .devices) i noDevice)
 
 -- what stands at n places from the place i on, without what does not pass
 abbrev pub passing : {A : Type 0} → (A → Bool) → (ℕ → A) → ℕ → ℕ → List A
@@ -75,4 +74,4 @@ unfoldable pub mappingsOf : ItsState → List Mapping
 mappingsOf u = passing (λ m. m .«in_force») (mappingAt u) (length (u .translations)) 0
 
 unfoldable pub devicesOf : ItsState → List ItsDevice
-devicesOf u = passing (λ r. r .used) (deviceAt u) (length (u .devices)) 0
+devicesOf u = passing (λ r. r .used) (mappedAt u) (length (u .devices)) 0

@@ -7,9 +7,8 @@ use model::ItsDevice;
 use model::ItsDeviceId;
 use model::ItsState;
 use model::LpiId;
-use model::Place;
 ghost use mathlib.Core.Path.{_≡_};
-ghost use Rattle.mappings.specs.Mappings.{counts, noMapping, mappingAt, deviceAt};
+ghost use Rattle.mappings.specs.Mappings.{counts, noMapping, mappingAt, mappedAt};
 
 // A pair in force, with its LPI, its collection and the processor of that. Where `in_force` is false the numbers are 0.
 pub struct Mapping {
@@ -34,11 +33,11 @@ fn no_mapping() -> Mapping
     }
 }
 
-// Whether a search that was made for the key of record `i` ended there.
-fn is_at(place: Place, i: usize) -> bool
-    ensures { λ r. ⌜ r ≡ counts place i ⌝ }
+// Whether a search that was made for the key of record `i` of a table ended there.
+fn is_at(size: usize, first: usize, i: usize) -> bool
+    ensures { λ r. ⌜ r ≡ counts size first i ⌝ }
 {
-    place.found & (place.at == i)
+    (first < size) & (first == i)
 }
 
 // What record `i` of the translations stands for.
@@ -47,16 +46,16 @@ pub fn mapping_at(unit: ItsState, i: usize) -> Mapping
 {
     let translations = unit.translations;
     let entry = tables::translation_at(translations, i);
-    let place = tables::place_of_pair(translations, entry.device, entry.event);
-    if !is_at(place, i) {
+    let first = tables::find_pair(translations, entry.device, entry.event);
+    if !is_at(256, first, i) {
         return no_mapping();
     }
     let collections = unit.collections;
-    let home = tables::place_of_collection(collections, entry.collection);
-    if !home.found {
+    let home = tables::find_collection(collections, entry.collection);
+    if 32 <= home {
         return no_mapping();
     }
-    let collection = tables::collection_at(collections, home.at);
+    let collection = tables::collection_at(collections, home);
     let device = entry.device;
     let event = entry.event;
     let lpi = entry.lpi;
@@ -74,12 +73,12 @@ pub fn mapping_at(unit: ItsState, i: usize) -> Mapping
 
 // The device that record `i` of the devices stands for, with its event bits; a free record where it stands for none.
 pub fn device_at(unit: ItsState, i: usize) -> ItsDevice
-    ensures { λ r. ⌜ r ≡ deviceAt unit i ⌝ }
+    ensures { λ r. ⌜ r ≡ mappedAt unit i ⌝ }
 {
     let devices = unit.devices;
     let entry = tables::device_at(devices, i);
-    let place = tables::place_of_device(devices, entry.device);
-    if is_at(place, i) {
+    let first = tables::find_device(devices, entry.device);
+    if is_at(32, first, i) {
         entry
     } else {
         tables::no_device()

@@ -1,33 +1,53 @@
--- `mappings::mapping_at` meets its contract: the record's own place, then its collection.
+-- `mappings::mapping_at` meets its contract: the first record of its key, then its collection.
 -- Assumes nothing.
 use borrow.Author.Needs.{needs}
-use borrow.Author.Tests.{not-true, not-false}
+use borrow.Author.Tests.{not-true, not-false, leb-true, leb-false}
+use Rattle.command.proofs.Sizes.{sized}
 use Rattle.mappings.proofs.Stands.{another, no-collection, stands}
 use Rattle.mappings.proofs.mapping_at.Statement.{statement}
 use Rattle.mappings.proofs.mapping_at.Tie as tie
 
 returns : tie.Need-returns
 returns c =
-    let a = c .before .before .before .before .before .before .args in
-    another (a .unit) (a .i) (c .before .before .before .before .translation-at .ensures) (c .before .before .before .place-of-pair .ensures) (c .before .before .is-at .ensures) (not-true _ (c .before .if1 .taken)) (c .no-mapping .ensures)
+    let i = c .before in
+    let h = i .before in
+    let p = h .before in
+    let t = p .before in
+    let s = t .before .before in
+    let a = s .args in
+    another (a .unit) (sized (a .unit) (s .good .0)) (a .i) (t .translation-at .ensures) (p .find-pair .ensures) (h .is-at .ensures)
+    (not-true _ (i .if1 .taken)) (c .no-mapping .ensures)
 
 returns-2 : tie.Need-returns-2
 returns-2 c =
-    let a = c .before .before .before .before .before .before .before .before .before .before .args in
-    no-collection (a .unit) (a .i) (c .before .before .before .before .before .before .before .before .translation-at .ensures) (c .before .before .before .before .before .before .before .place-of-pair .ensures) (c .before .before .before .before .before .before .is-at .ensures) (not-false _ (c .before .before .before .before .before .if1 .left)) (c .before .before .before .place-of-collection .ensures) (not-true _ (c .before .if2 .taken)) (c .no-mapping2 .ensures)
+    let j = c .before in
+    let k = j .before in
+    let i = k .before .before in
+    let h = i .before in
+    let p = h .before in
+    let t = p .before in
+    let s = t .before .before in
+    let a = s .args in
+    no-collection (a .unit) (sized (a .unit) (s .good .0)) (a .i) (t .translation-at .ensures) (p .find-pair .ensures) (h .is-at .ensures)
+    (not-false _ (i .if1 .left)) (k .find-collection .ensures) (j .if2 .taken) (c .no-mapping2 .ensures)
 
 returns-3 : tie.Need-returns-3
 returns-3 c =
-    let a = c .before .before .before .before .before .before .before .before .before .before .before .before .before .before .before .args in
-    stands (a .unit) (a .i) (c .before .before .before .before .before .before .before .before .before .before .before .before .before .translation-at .ensures) (c .before .before .before .before .before .before .before .before .before .before .before .before .place-of-pair .ensures) (c .before .before .before .before .before .before .before .before .before .before .before .is-at .ensures) (not-false _ (c .before .before .before .before .before .before .before .before .before .before .if1 .left)) (c .before .before .before .before .before .before .before .before .place-of-collection .ensures) (not-false _ (c .before .before .before .before .before .before .if2 .left)) (c .before .before .before .before .before .collection-at .ensures)
+    let m = c .before .before .before .before .before in
+    let j = m .before in
+    let k = j .before in
+    let i = k .before .before in
+    let h = i .before in
+    let p = h .before in
+    let t = p .before in
+    let s = t .before .before in
+    let a = s .args in
+    stands (a .unit) (sized (a .unit) (s .good .0)) (a .i) (t .translation-at .ensures) (p .find-pair .ensures) (h .is-at .ensures)
+    (not-false _ (i .if1 .left)) (k .find-collection .ensures) (j .if2 .left) (m .collection-at .ensures)
 
 pub mapping-at-spec : {M : Type 1} → statement M
 mapping-at-spec =
     tie.close
     (tie.spec
-    (λ c κs. search needs) (λ c κs. search needs) (λ c κs. search needs) (λ c κs. search needs)
-    returns
-    (λ c κs. search needs) (λ c κs. search needs)
-    returns-2
-    (λ c κs. search needs)
-    returns-3)
+    (λ c κs. search needs) (λ c κs. search needs) (λ c κs. search needs) (λ c κs. search needs) returns
+    (λ c κs. search needs) (λ c κs. search needs) returns-2 (λ c κs. search needs) returns-3)

@@ -1,0 +1,68 @@
+-- What a write comes to on a sound unit, whatever it is to: by the ways a write can go of the model.
+-- Assumes nothing.
+use Prim.Native.Nat.{ℕ}
+use native.Mathlib.Omega.{arith}
+use mathlib.Core.Path.{_≡_, refl, sym, ap, _∙_}
+use mathlib.Core.Bool.{true, false}
+use mathlib.Core.List.{List}
+use Rattle.model.specs.declared.ItsState.{ItsState}
+use Rattle.model.specs.declared.ItsAction.{ItsAction}
+use Rattle.model.specs.declared.RegisterWrite.{RegisterWrite}
+use Rattle.model.specs.declared.WriteAnswer.the-variants.{Taken}
+use Rattle.model.specs.With.{withRegisters, withReader}
+use Rattle.model.specs.Config.{soundUnit}
+use Rattle.model.specs.Queue.{Window, run, waiting}
+use Rattle.model.specs.Entry.{Outcome, stores, write}
+use Rattle.model.specs.Passed.{ringOffset, commandsPassed, CarriedOut}
+use Rattle.model.proofs.Cases.{never}
+use Rattle.model.proofs.Ring.{reader-below}
+use Rattle.model.proofs.Waiting.{waiting-all}
+use Rattle.model.proofs.Runs.{run-keeps}
+use Rattle.model.proofs.Answers.{taken-of}
+use Rattle.model.proofs.Ways.{Way, checked, no-base, no-writer, quiet, based, off, over, ran, way, as-run, ranBy, run-kept, stays-sound}
+use Rattle.model.proofs.Held.{carried-out}
+use Rattle.arm_agreement.specs.Runs.{unitBy, doneBy}
+
+-- s is what the write does to the registers, o its outcome
+pub record Comes (w : Window) (u : ItsState) (s : RegisterWrite) (o : Outcome) : Type 0 where
+  pub config : unitBy o .config ≡ u .config
+  pub sound : soundUnit (unitBy o) ≡ true
+  -- CREADR passed the commands that were done, and the other registers are as they were stored
+  pub registers : unitBy o .registers ≡ withReader (s .registers) (ringOffset (s .registers) (doneBy o))
+  -- they were carried out, from the unit with the value stored, and handed over these actions
+  pub handed : List ItsAction
+  pub carried : CarriedOut (withRegisters u (s .registers)) (commandsPassed w (u .registers) (doneBy o)) handed (unitBy o)
+  -- a disabled unit runs nothing
+  pub disabled : s .registers .enabled ≡ false → doneBy o ≡ 0
+  -- a write that is taken and lets an enabled unit run leaves no command waiting
+  pub taken : (done actions : ℕ) → o .written .answer ≡ Taken done actions → s .runs ≡ true → s .registers .enabled ≡ true → unitBy o .registers .creadr ≡ s .registers .cwriter
+
+module _ (w : Window) (row : List ItsAction) (u : ItsState) (offset width value : ℕ) where
+  to-writer : {s : RegisterWrite} {o : Outcome} → Way w row u offset width value s o → (done actions : ℕ) → o .written .answer ≡ Taken done actions →
+      s .runs ≡ true → s .registers .enabled ≡ true → unitBy o .registers .creadr ≡ s .registers .cwriter
+  to-writer (checked why c) done actions t runs on = never true refl (sym runs)
+  to-writer (no-base sound) done actions t runs on = never true refl (sym runs)
+  to-writer (no-writer sound at) done actions t runs on = never true refl (sym runs)
+  to-writer (quiet s g) done actions t runs on = never true refl (sym runs)
+  to-writer (based s c k z) done actions t runs on = never true refl (sym runs)
+  to-writer (off s g out) done actions t runs on = never (s .enabled) on out
+  to-writer (over s g _ more) done actions t runs on = never true refl (cc)
+  to-writer (ran s g _ within) done actions t runs on =
+      let q = run w (waiting s) (withRegisters u s) in
+      let k = run-keeps w (waiting s) (withRegisters u s) (reader-below s (g .ring)) in
+      ap (λ r. r .creadr) (k .registers) ∙ (ap (ringOffset s) (k .all (taken-of q (q .stopped) done actions t)) ∙ waiting-all s (g .ring))
+
+  pub every-write : soundUnit u ≡ true → Comes w u (stores row u offset width value) (write w row u offset width value)
+  every-write sound =
+      let y = way w row u offset width value in
+      let a = as-run w row u offset width value sound y in
+      let k = run-kept w row u offset width value sound a in
+      record {
+        config = ap (λ v. v .config) (a .unit) ∙ k .config;
+        sound = stays-sound w row u offset width value sound a;
+        registers = ap (λ v. v .registers) (a .unit) ∙ rw (a .done) (k .registers);
+        handed = ranBy w row u offset width value sound a .actions;
+        carried = carried-out w row u offset width value sound a;
+        disabled = λ e. omega (arith, a .done, k .at-most, a .disabled e);
+        taken = to-writer y;
+      }

@@ -1,0 +1,16 @@
+pub mod Decoding
+pub mod Accesses
+pub mod ReadsAsArm
+pub mod BaserFields
+pub mod EveryWrite
+pub mod BaserReadOnly
+pub mod WritesAsArm
+pub mod Effects
+pub mod Errors
+pub mod Keeping
+pub mod AsArm
+pub mod QueueAsArm
+pub mod Messages
+pub mod LifeAsArm
+pub mod ExampleLived
+pub mod Departures

@@ -1,0 +1,9 @@
+pub mod Commands
+pub mod Registers
+pub mod Fields
+pub mod Writes
+pub mod Mappings
+pub mod Ring
+pub mod Seen
+pub mod Conditions
+pub mod Runs

@@ -1,9 +1,0 @@
-pub mod Commands
-pub mod Registers
-pub mod Fields
-pub mod Stores
-pub mod Mappings
-pub mod Ring
-pub mod Seen
-pub mod Conditions
-pub mod Runs
