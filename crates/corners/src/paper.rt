@@ -1,24 +1,24 @@
 // Document 01, "Corners to hit".
-use crate::guest::BASER;
-use crate::guest::CBASER;
-use crate::guest::CREADR;
-use crate::guest::CWRITER;
-use crate::guest::TYPER;
-use crate::guest::enabled;
-use crate::guest::example;
-use crate::guest::fresh;
-use crate::guest::put_command;
-use crate::guest::put_example;
-use crate::guest::reads;
-use crate::guest::set;
-use crate::guest::translates;
-use crate::guest::write;
-use crate::guest::writes;
-use crate::show::rd;
-use crate::show::tr;
-use crate::show::wr;
 use model::Refusal;
 use model::WriteAnswer;
+use showing::guest::BASER;
+use showing::guest::CBASER;
+use showing::guest::CREADR;
+use showing::guest::CWRITER;
+use showing::guest::TYPER;
+use showing::guest::enabled;
+use showing::guest::example;
+use showing::guest::fresh;
+use showing::guest::put_command;
+use showing::guest::put_example;
+use showing::guest::reads;
+use showing::guest::set;
+use showing::guest::translates;
+use showing::guest::write;
+use showing::guest::writes;
+use showing::show::rd;
+use showing::show::tr;
+use showing::show::wr;
 
 pub fn registers() {
     reads(
@@ -327,7 +327,7 @@ fn movi_order() {
     let w = write(unit, &page, 64, CWRITER, 8, 160);
     let answer = w.answer;
     let reason = for_collection(answer);
-    crate::show::show(b"its reason is the collection", rd(0, reason), rd(0, 1));
+    showing::show::show(b"its reason is the collection", rd(0, reason), rd(0, 1));
 }
 
 // MAPC 3 to processor 0, MOVI (5, 9) to it, then the drop of collection 2 and that of 3.

@@ -12,7 +12,7 @@ use Rattle.text.specs.declared.Laid.{Laid}
 use Rattle.text.specs.Laying.{output, layAll}
 use Rattle.text.proofs.Fits.{append}
 use Rattle.trace.specs.declared.Run.{Run}
-use Rattle.trace.specs.Steps.{Stand, stand, outputOf, runningOf, Within, partOf, standAt, after, startOf}
+use Rattle.trace.specs.Records.{Stand, stand, outputOf, runningOf, Within, stretchOf, standAt, after, startOf}
 use Rattle.trace.proofs.Rest.{Moves, moves}
 use Rattle.inforce.specs.Shown.{unitLines, nothingMore, endOf, recordLines, noLines, moreLines, eachLines}
 use Rattle.inforce.specs.Listing.{withUnit, listedAfter}
@@ -115,5 +115,5 @@ module _ (trace out₀ out : List ℕ) (run : Run) (g : Listing trace out₀ out
 
 -- the record is carried out, and then the lines of the unit are laid
 pub then-listed : (trace : List ℕ) (s : Stand) {between : List ℕ} {m : Run} → stand between m ≡ after trace s (parse (drop (s .run .at) trace)) → {left : List ℕ} {laid : Laid} →
-    output left laid ≡ layAll (output between (m .laid)) (unitLines (m .unit)) → standAt (output left laid) (m .at) (partOf m) (m .unit) ≡ listedAfter trace s
-then-listed trace s {between} {m} e f = ap (λ o. standAt o (m .at) (partOf m) (m .unit)) f ∙ ap withUnit e
+    output left laid ≡ layAll (output between (m .laid)) (unitLines (m .unit)) → standAt (output left laid) (m .at) (stretchOf m) (m .unit) ≡ listedAfter trace s
+then-listed trace s {between} {m} e f = ap (λ o. standAt o (m .at) (stretchOf m) (m .unit)) f ∙ ap withUnit e

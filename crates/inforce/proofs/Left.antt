@@ -10,7 +10,7 @@ use Rattle.model.specs.Choose.{if_then_else_}
 use Rattle.model.proofs.Cases.{cases}
 use lib.ListN.{length}
 use Rattle.model.specs.declared.ItsState.{ItsState}
-use Rattle.mappings.specs.Mappings.{passing, mappingAt, deviceAt, mappingsOf, devicesOf}
+use Rattle.mappings.specs.Mappings.{passing, mappingAt, mappedAt, mappingsOf, devicesOf}
 use Rattle.inforce.specs.Shown.{mappingLine, deviceLine}
 use Rattle.text.specs.Laying.{Output, layAll}
 use Rattle.text.proofs.Fits.{append}
@@ -41,6 +41,6 @@ pub all-mappings : (u : ItsState) → length (u .translations) ≡ 256 → left 
 unfolding mappingsOf
 all-mappings u e = rw e
 
-pub all-devices : (u : ItsState) → length (u .devices) ≡ 32 → left (λ r. r .used) (deviceAt u) deviceLine 32 0 ≡ map deviceLine (devicesOf u)
+pub all-devices : (u : ItsState) → length (u .devices) ≡ 32 → left (λ r. r .used) (mappedAt u) deviceLine 32 0 ≡ map deviceLine (devicesOf u)
 unfolding devicesOf
 all-devices u e = rw e

@@ -8,7 +8,7 @@ use lib.ListN.{length, drop, length-drop, drop-of-length-le}
 use lib.Seq.{drop-drop, drop-length}
 use Rattle.model.specs.Trace.{Record, Parsed, whole, broken, parse, Running, next}
 use Rattle.trace.specs.declared.Run.{Run}
-use Rattle.trace.specs.Steps.{Stand, runningOf, after}
+use Rattle.trace.specs.Records.{Stand, runningOf, after}
 use Rattle.trace.proofs.Parsing.{Takes, Sound, sound}
 use Rattle.trace.proofs.Rest.{shorter, leftOf, running-after}
 use Rattle.inforce.specs.Shown.{onWith, walk}

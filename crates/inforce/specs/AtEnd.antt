@@ -1,6 +1,5 @@
 -- What the unit at the end of a trace is: one to which calls led, so that its lists are those of the commands carried out; or none was configured.
 -- Assumes nothing.
-use Prim.Native.Nat.{ℕ}
 use mathlib.Core.Path.{_≡_}
 use mathlib.Core.List.{List, []}
 use mathlib.Core.Logic.{_⊎_}

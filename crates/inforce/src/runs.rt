@@ -6,7 +6,7 @@ ghost use mathlib.Core.Path.{_≡_};
 ghost use mathlib.Core.Bool.{false};
 ghost use lib.ListN.{drop};
 ghost use Rattle.text.specs.Laying.{output, layAll};
-ghost use Rattle.trace.specs.Steps.{stand, Within};
+ghost use Rattle.trace.specs.Records.{stand, Within};
 ghost use Rattle.inforce.specs.Shown.{endOf, eachLines};
 ghost use Rattle.inforce.specs.Listing.{listedAfter};
 

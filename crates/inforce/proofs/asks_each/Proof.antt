@@ -8,11 +8,8 @@ use Rattle.inforce.proofs.asks_each.Tie as tie
 returns : tie.Need-returns
 returns c = empty (c .before .args .input .now) (c .if1 .taken)
 
-shared-slice-read-result : tie.Need-shared-slice-read-result
-shared-slice-read-result c = search needs
-
 returns-2 : tie.Need-returns-2
 returns-2 c = search needs
 
 pub asks-each-spec : {M : Type 1} → statement M
-asks-each-spec = tie.close (tie.spec returns shared-slice-read-result returns-2)
+asks-each-spec = tie.close (tie.spec returns (λ c. search needs) returns-2)

@@ -7,34 +7,13 @@ use Rattle.itstrace.proofs.Printing.{long, within, lines}
 use Rattle.itstrace.proofs.print.Statement.{statement}
 use Rattle.itstrace.proofs.print.Tie as tie
 
-slice-write-out : tie.Need-slice-write-out
-slice-write-out c = search needs
-
-slice-write-out-2 : tie.Need-slice-write-out-2
-slice-write-out-2 c = search needs
-
-slice-write-out-3 : tie.Need-slice-write-out-3
-slice-write-out-3 c = search needs
-
-slice-write-out-4 : tie.Need-slice-write-out-4
-slice-write-out-4 c = search needs
-
 slice-write-out-5 : tie.Need-slice-write-out-5
 slice-write-out-5 c = simp length-set (omega (arith, c .before .before .before .pre))
-
-same-length : tie.Need-same-length
-same-length c = search needs
 
 returns : tie.Need-returns
 returns c =
     let s = c .before .before .before in
     (simp length-set (omega (arith, s .pre)), long (s .args .input .now) (s .args .out .now) (omega (arith, s .pre)) (c .if1 .taken))
-
-run-trace-requires : tie.Need-run-trace-requires
-run-trace-requires c κs = search needs
-
-same-length-2 : tie.Need-same-length-2
-same-length-2 c = search needs
 
 returns-2 : tie.Need-returns-2
 returns-2 c =
@@ -48,13 +27,5 @@ pub print-spec : {M : Type 1} → statement M
 print-spec =
     tie.close
     (tie.spec
-    slice-write-out
-    slice-write-out-2
-    slice-write-out-3
-    slice-write-out-4
-    slice-write-out-5
-    same-length
-    returns
-    run-trace-requires
-    same-length-2
-    returns-2)
+    (λ c. search needs) (λ c. search needs) (λ c. search needs) (λ c. search needs) slice-write-out-5 (λ c. search needs) returns
+    (λ c κs. search needs) (λ c. search needs) returns-2)

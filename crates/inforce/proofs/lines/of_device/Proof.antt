@@ -7,15 +7,9 @@ use borrow.Author.Needs.{needs}
 use Rattle.inforce.proofs.lines.of_device.Statement.{statement}
 use Rattle.inforce.proofs.lines.of_device.Tie as tie
 
-cast-d : tie.Need-cast-d
-cast-d c = search needs
-
-cast-bits : tie.Need-cast-bits
-cast-bits c = search needs
-
 returns : tie.Need-returns
 unfolding line lineOf
 returns c = refl
 
 pub of-device-spec : {M : Type 1} → statement M
-of-device-spec = tie.close (tie.spec cast-d cast-bits returns)
+of-device-spec = tie.close (tie.spec (λ c. search needs) (λ c. search needs) returns)

@@ -5,7 +5,7 @@ use native.Mathlib.Omega.{arith}
 use mathlib.Core.Path.{_≡_, _∙_, ap}
 use lib.ListN.{length}
 use Rattle.model.proofs.TableLoops.{length-mapped}
-use Rattle.mappings.specs.Mappings.{deviceAt}
+use Rattle.mappings.specs.Mappings.{mappedAt}
 use Rattle.text.specs.Laying.{output, layAll}
 use Rattle.inforce.specs.Shown.{deviceLine}
 use Rattle.inforce.proofs.Left.{left, laid-on, none-left, all-devices}
@@ -14,7 +14,9 @@ use Rattle.inforce.proofs.lines.put_devices.Statement.{statement}
 use Rattle.inforce.proofs.lines.put_devices.Tie as tie
 
 abbrev Inv-loop : tie.InvT-loop
-Inv-loop out₀ unit next₀ i₀ out next i = (layAll (output out next) (left (λ r. r .used) (deviceAt unit) deviceLine 32 i) ≡ layAll (output out₀ next₀) (left (λ r. r .used) (deviceAt unit) deviceLine 32 0)) × (length out ≡ length out₀) × (length (unit .devices) ≡ 32) × (i ≤ 32)
+Inv-loop out₀ unit next₀ i₀ out next i = (layAll (output out next)
+    (left (λ r. r .used) (mappedAt unit) deviceLine 32 i) ≡ layAll (output out₀ next₀)
+    (left (λ r. r .used) (mappedAt unit) deviceLine 32 0)) × (length out ≡ length out₀) × (length (unit .devices) ≡ 32) × (i ≤ 32)
 
 abbrev μ-loop : tie.MeasureT-loop
 μ-loop out₀ unit next₀ i₀ out next i = 32 - i
@@ -38,7 +40,7 @@ loop-again : tie.Need-loop-again Inv-loop μ-loop
 loop-again c =
     let h = c .before .before .before .before .before .before .loop in
     let u = c .before .before .before .before .before .before .before .before .args .unit in (
-      laid-on (λ r. r .used) (deviceAt u) deviceLine 32 (h .i) (omega arith) (output (h .out) (h .next)) _ (rw (← c .before .before .before .before .device-at .ensures) (c .before .before .put-device .ensures)) ∙ h .inv .0,
+      laid-on (λ r. r .used) (mappedAt u) deviceLine 32 (h .i) (omega arith) (output (h .out) (h .next)) _ (rw (← c .before .before .before .before .device-at .ensures) (c .before .before .put-device .ensures)) ∙ h .inv .0,
       c .before .before .put-device .kept .0 ∙ h .inv .1,
       h .inv .2,
       omega arith,
@@ -51,7 +53,7 @@ returns : tie.Need-returns Inv-loop μ-loop
 returns c =
     let h = c .before .loop in
     let a = c .before .before .before .args in
-    rw (none-left (λ r. r .used) (deviceAt (a .unit)) deviceLine 32 (h .i) (omega arith)) at (h .inv .0) ∙ ap (layAll (output (a .out .now) (a .laid))) (all-devices (a .unit) (h .inv .2))
+    rw (none-left (λ r. r .used) (mappedAt (a .unit)) deviceLine 32 (h .i) (omega arith)) at (h .inv .0) ∙ ap (layAll (output (a .out .now) (a .laid))) (all-devices (a .unit) (h .inv .2))
 
 pub put-devices-spec : {M : Type 1} → statement M
 put-devices-spec =

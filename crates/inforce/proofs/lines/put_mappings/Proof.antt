@@ -14,7 +14,9 @@ use Rattle.inforce.proofs.lines.put_mappings.Statement.{statement}
 use Rattle.inforce.proofs.lines.put_mappings.Tie as tie
 
 abbrev Inv-loop : tie.InvT-loop
-Inv-loop out₀ unit next₀ i₀ out next i = (layAll (output out next) (left (λ m. m .«in_force») (mappingAt unit) mappingLine 256 i) ≡ layAll (output out₀ next₀) (left (λ m. m .«in_force») (mappingAt unit) mappingLine 256 0)) × (length out ≡ length out₀) × (length (unit .translations) ≡ 256) × (i ≤ 256)
+Inv-loop out₀ unit next₀ i₀ out next i = (layAll (output out next)
+    (left (λ m. m .«in_force») (mappingAt unit) mappingLine 256 i) ≡ layAll (output out₀ next₀)
+    (left (λ m. m .«in_force») (mappingAt unit) mappingLine 256 0)) × (length out ≡ length out₀) × (length (unit .translations) ≡ 256) × (i ≤ 256)
 
 abbrev μ-loop : tie.MeasureT-loop
 μ-loop out₀ unit next₀ i₀ out next i = 256 - i

@@ -10,15 +10,6 @@ use borrow.Author.Needs.{needs}
 use Rattle.inforce.proofs.lines.put_unit.Statement.{statement}
 use Rattle.inforce.proofs.lines.put_unit.Tie as tie
 
-put-mappings-requires : tie.Need-put-mappings-requires
-put-mappings-requires c κs = search needs
-
-put-devices-requires : tie.Need-put-devices-requires
-put-devices-requires c κs = search needs
-
-same-length : tie.Need-same-length
-same-length c = search needs
-
 returns : tie.Need-returns
 unfolding unitLines
 returns c =
@@ -27,4 +18,4 @@ returns c =
     (sym (append (output (a .out .now) (a .laid)) (map mappingLine (mappingsOf (a .unit))) (map deviceLine (devicesOf (a .unit)))))
 
 pub put-unit-spec : {M : Type 1} → statement M
-put-unit-spec = tie.close (tie.spec put-mappings-requires put-devices-requires same-length returns)
+put-unit-spec = tie.close (tie.spec (λ c κs. search needs) (λ c κs. search needs) (λ c. search needs) returns)

@@ -1,13 +1,5 @@
 // One command at a time, on a unit built by hand that holds a device, a collection and a pair twice: which record counts, what is stored, and
 // what a drop leaves.
-use crate::guest::fresh;
-use crate::show::ac;
-use crate::show::cl;
-use crate::show::dv;
-use crate::show::ex;
-use crate::show::heading;
-use crate::show::pr;
-use crate::show::show;
 use model::CollectionId;
 use model::Command;
 use model::EventId;
@@ -19,6 +11,14 @@ use model::ItsDeviceId;
 use model::ItsState;
 use model::LpiId;
 use model::Translation;
+use showing::guest::fresh;
+use showing::show::ac;
+use showing::show::cl;
+use showing::show::dv;
+use showing::show::ex;
+use showing::show::heading;
+use showing::show::pr;
+use showing::show::show;
 use text::Line;
 
 fn device(bits: u8) -> ItsDevice {
@@ -135,7 +135,7 @@ fn discard() -> Command {
 fn line_of(executed: Executed) -> Line {
     match executed {
         Executed::NotDone(refusal) => {
-            let number = text::lines::refusal_number(refusal);
+            let number = answers::refusal_number(refusal);
             ex(number)
         }
         Executed::Done => ex(0),
