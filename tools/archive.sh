@@ -6,7 +6,8 @@
 #
 # One proved module serves every target: `rattle build` is given a copy of the toolchain folder in which `clang` is a script that keeps the module
 # that it compiles for x86-64. For Arm the same module, byte for byte, goes through the same compiler with the same words but another target. (What
-# is proved is the module's source; no compiler's back end is covered by a proof.)
+# is proved is the module's source; no compiler's back end is covered by a proof.) For the bare machine it has one word more and uses the general
+# registers only, so that a trap handler which saves no others may call it: tools/host.sh looks at each instruction.
 set -eu
 cd "$(dirname "$0")/.."
 root=$(pwd)
@@ -16,9 +17,10 @@ if [ "${1:-}" = --target ]; then
     target=${2:-}
     shift 2
 fi
+more=''
 case $target in
 x86_64 | aarch64) triple=$target-unknown-linux-gnu ;;
-aarch64-none) triple=aarch64-none-elf ;;
+aarch64-none) triple=aarch64-none-elf more=-mgeneral-regs-only ;;
 *) target='' ;;
 esac
 if [ $# -ne 1 ] || [ -z "$target" ] || [ ! -f "crates/${1:-.}/src/lib.rt" ]; then
@@ -118,7 +120,7 @@ if [ "$target" != x86_64 ]; then
     done <"$module.words"
     object=$made/$target/$name.o
     # It says that it ignores the name of a processor, which the module has for x86-64.
-    "$own/toolchain/bin/clang" -Wno-override-module "$@" "$module" -o "$object" 2>"$object.log" || {
+    "$own/toolchain/bin/clang" -Wno-override-module "$@" ${more:+"$more"} "$module" -o "$object" 2>"$object.log" || {
         cat "$object.log" >&2
         exit 1
     }

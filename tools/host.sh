@@ -1,6 +1,7 @@
 #!/bin/sh
 # The calls for hosts, tried as a host uses them: the archive for the machine at hand from C and from Rust; the archives for Linux on Arm and for a
-# bare Arm machine, with the symbols that they need; and the same C program on the bare machine, emulated.
+# bare Arm machine, with the symbols that they need; that the last uses no registers but the general ones; and the same C program on the bare
+# machine, emulated, with the others switched off.
 #   tools/host.sh            all of it
 #   tools/host.sh replay FILE ..   the lines of traces, through the example host
 # Where the emulator is not at hand it is installed (Debian's qemu-system-arm); if that fails this says so, and the archive is linked only.
@@ -51,16 +52,48 @@ needs() {
     say "$1 gives ${calls}and needs $(symbols "$2" | tr '\n' ' ')"
 }
 needs "the archive for this machine" "$native"
-needs "the archive for Linux on Arm" "$(archive --target aarch64)"
+linux=$(archive --target aarch64)
+needs "the archive for Linux on Arm" "$linux"
 bare=$(archive --target aarch64-none)
 needs "the archive for a bare Arm machine" "$bare"
+
+# How many instructions of an archive for Arm use other registers than the general ones, in which section (each function has its own). They are told
+# by the bits that Arm gives to each group of instructions, since no disassembler for Arm is sure to be at hand: 27 and 26 both set is floating point
+# and SIMD, with its loads and stores (and the memory copies of Armv8.8, which no target here has); 28 to 25 are 2 for SVE, and 0 with bit 31 for SME.
+others() {
+    python3 - "$1" <<'PY'
+import struct, sys
+
+archive, at, lines = open(sys.argv[1], "rb").read(), 8, []
+while at < len(archive):
+    size = int(archive[at + 48 : at + 58])
+    file, at = archive[at + 60 : at + 60 + size], at + 60 + size + size % 2
+    if file[:4] != b"\x7fELF":
+        continue
+    (first,), (step, count, names) = struct.unpack_from("<Q", file, 40), struct.unpack_from("<HHH", file, 58)
+    sections = [struct.unpack_from("<IIQQQQ", file, first + step * i) for i in range(count)]
+    for name, _, flags, _, start, length in sections:
+        if flags & 4:  # it holds instructions
+            words = struct.unpack_from(f"<{length // 4}I", file, start)
+            found = sum(w >> 26 & 3 == 3 or w >> 25 & 15 == 2 or w >> 25 & 15 == 0 and w >> 31 == 1 for w in words)
+            if found:
+                lines.append(f"{found} in {file[sections[names][4] + name :].split(bytes(1))[0].decode()}")
+print(", ".join(lines))
+PY
+}
+# The same module, compiled without -mgeneral-regs-only, does use them; else this test might see nothing anywhere.
+seen=$(others "$linux")
+[ -n "$seen" ] || { say "the archive for Linux on Arm uses the general registers only, or the use of others is not seen" && exit 1; }
+used=$(others "$bare")
+[ -z "$used" ] || { say "the archive for a bare Arm machine uses other registers than the general ones: $used" && exit 1; }
+say "the archive for a bare Arm machine uses the general registers only; that for Linux on Arm has $seen"
 
 say "the bare Arm machine"
 rt=$(readlink -f "$(command -v rt)")
 tools=${RATTLE_HOME:-$(dirname "$rt")/..}/on/$(uname -m)/toolchain/bin
 for part in start.S bare.c visit.c; do
-    "$tools/clang" --target=aarch64-none-elf -ffreestanding -fno-builtin -isystem "$(gcc -print-file-name=include)" -Iinclude -Wall -Wextra \
-        -Werror -O2 -c "host/c/$part" -o "$made/$part.o"
+    "$tools/clang" --target=aarch64-none-elf -mgeneral-regs-only -ffreestanding -fno-builtin -isystem "$(gcc -print-file-name=include)" -Iinclude \
+        -Wall -Wextra -Werror -O2 -c "host/c/$part" -o "$made/$part.o"
 done
 "$tools/ld.lld" -static --gc-sections -e _start -Ttext=0x40080000 "$made"/*.o "$bare" -o "$made/visit.elf"
 emulator=qemu-system-aarch64

@@ -5,8 +5,9 @@
 #   - where the log has no error at that name (of a function that needs no proof file: that rattle's own search does not close it);
 #   - where the edit only made a proof file unfit for the code ("has no `Need-..`").
 # A line `fails: FACT` names it. An edit that holds a wrong text for each of several functions has a line `fails: FUNCTION FACT` for each
-# (`MODULE/FUNCTION` of a module's), and the error must stand in that function's own proof. For each edit the script prints the first error of its log, and the error at each named fact where
-# that is another one.
+# (`MODULE/FUNCTION` of a module's), and the error must stand in that function's own proof. An edit that holds several wrong definitions has a line
+# `fails: FILE.antt FACT` for each (`proofs/Ring.antt offset-next`): the error must stand in that file, and be the fact's own, not that a fact under it
+# fell. For each edit the script prints the first error of its log, and the error at each named fact where that is another one.
 set -u
 cd "$(dirname "$0")/.." || exit 2
 
@@ -19,15 +20,19 @@ say_bad() {
 }
 # an error's line without the folder that it was tried in, cut to a readable length
 shown() { sed "s|^.*/target/must-fail/||" | cut -c 1-240 | sed 's/^/    /'; }
-# named LOG CRATE FUNCTION FACT: the error at the fact, in that function's proof where one is named
+# named LOG CRATE WHERE FACT: the error at the fact, in that function's proof or in that file where one is named
 named() {
-    if [ -n "$3" ]; then
-        grep -F "/proofs/$3/Proof.antt:" "$1" | grep -F -m 1 "error: \`$4\`:" && return
-        grep -F "fn $2::$(printf %s "$3" | sed 's|/|::|g'): " "$1" | grep -F "does not close" | grep -F -m 1 "\`$4\`"
-    else
+    case $3 in
+    '')
         grep -F -m 1 "error: \`$4\`:" "$1" && return
         grep -F "does not close" "$1" | grep -F -m 1 "\`$4\`"
-    fi
+        ;;
+    *.antt) grep -F "${1%.log}$3:" "$1" | grep -F "error: \`$4\`:" | grep -F -m 1 -v '` was not admitted (' ;;
+    *)
+        grep -F "/proofs/$3/Proof.antt:" "$1" | grep -F -m 1 "error: \`$4\`:" && return
+        grep -F "fn $2::$(printf %s "$3" | sed 's|/|::|g'): " "$1" | grep -F "does not close" | grep -F -m 1 "\`$4\`"
+        ;;
+    esac
 }
 
 names=$(mktemp) || exit 2
@@ -45,11 +50,11 @@ for edit in crates/*/must-fail/*.edit; do
     echo "$crate/$label"
     [ -z "$first" ] || printf '%s\n' "$first" | shown
     case $first in *'has no `Need-'*) say_bad "$crate/$label" "refused only because a proof file no longer fits the code" ;; esac
-    while read -r function fact; do
-        [ -n "$fact" ] || { fact=$function; function=''; }
+    while read -r where fact; do
+        [ -n "$fact" ] || { fact=$where; where=''; }
         facts=$((facts + 1))
-        error=$(named "$log" "$crate" "$function" "$fact")
-        if [ -z "$error" ]; then say_bad "$crate/$label" "no error at ${function:+$function }$fact"
+        error=$(named "$log" "$crate" "$where" "$fact")
+        if [ -z "$error" ]; then say_bad "$crate/$label" "no error at ${where:+$where }$fact"
         elif [ "$error" != "$first" ]; then printf '%s\n' "$error" | shown; fi
     done <"$names"
 done

@@ -1,10 +1,10 @@
-/* From the entry of a 64-bit Arm machine at EL1 to bare_main: floating-point registers allowed, memory from 0x40000000 on mapped as it is and
-   cached, since compiled code may load across the natural boundaries, which memory that is not mapped does not allow; then a stack. */
+/* From the entry of a 64-bit Arm machine at EL1 to bare_main: floating-point and vector registers switched off, so that whatever uses one is
+   stopped; memory from 0x40000000 on mapped as it is and cached, since compiled code may load across the natural boundaries, which memory that is
+   not mapped does not allow; then a stack. */
     .section .text.start, "ax"
     .global _start
 _start:
-    mov     x0, #(3 << 20)
-    msr     cpacr_el1, x0
+    msr     cpacr_el1, xzr
     mov     x0, #0xff
     msr     mair_el1, x0
     ldr     x0, =0x803519               /* 39 bits of address, 4 KB pages, cached, inner shareable, no upper half */

@@ -1,0 +1,196 @@
+#!/bin/sh
+# The documents against the files that they speak of; nothing is built. One line each:
+#   docs/SENTENCES.md     no empty cell, and every definition, proof, function, theorem and must-fail edit that it names is there
+#   docs/GUARANTEES.md    every definition and proof that it names is there, and its must-fail edits are those of crates/guarantees
+#   docs/DIFFERENCES.md   every entry of its tables is there with all its parts, under the same title and in order; each trace on the page is the
+#                         file in oracle/traces, each run of lines the file in crates/replay/data/recorded; every difference-* file is on the page
+#   docs/SECOND-VISIT.md  its pieces of a trace, one after the other, are the file in oracle/traces, and its pieces of lines the recorded file
+#   crates/replay         `args` names every trace and its lines, in order, and `stdout` says how many there are
+# That the recorded lines are the Rust's is for tools/oracle.sh. `tools/documents.sh write` makes the two files of crates/replay anew.
+set -eu
+cd "$(dirname "$0")/.."
+exec python3 - "$@" <<'PY'
+import difflib, glob, re, sys
+
+RECORDED = "crates/replay/data/recorded"
+
+
+def read(path):
+    try:
+        return open(path, encoding="utf-8", newline="").read()
+    except FileNotFoundError:
+        return ""
+
+
+def quoted(text):
+    """The words between backquotes, none of which goes over the end of a line; each once."""
+    return sorted({word for line in text.splitlines() for word in re.findall("`([^`]*)`", line)})
+
+
+def declared(path, name):
+    """The file declares the name, as a definition, a record, a field or a law."""
+    return re.search(f"^ *(abbrev |unfoldable )?pub (record |data )?«?{re.escape(name)}»?( |$)", read(path), re.M)
+
+
+def placed(word, crate):
+    """Where `File.name` or `proofs/File.name` of a crate must stand, and the name."""
+    folder, word = ("proofs", word[7:]) if word.startswith("proofs/") else ("specs", word)
+    file, name = word.split(".", 1)
+    return f"crates/{crate}/{folder}/{file}.antt", name
+
+
+def pieces(text):
+    """The page's lines, and its blocks as (first line, text); the text of a block that does not end is None."""
+    head = None
+    for line in text.split("\n"):
+        if head is None and line.startswith("```"):
+            head, block = line, []
+        elif head is None:
+            yield line
+        elif line == "```":
+            yield head, "".join(part + "\n" for part in block)
+            head = None
+        else:
+            block.append(line)
+    if head is not None:
+        yield head, None
+
+
+def held(wrong, block, path):
+    """A block of the page is the file."""
+    if not read(path) or block != read(path):
+        told = difflib.unified_diff(read(path).splitlines(), (block or "").splitlines(), path, "the page", n=0, lineterm="")
+        wrong(f"it does not have {path} as it is:\n" + "\n".join(told))
+
+
+def sentences(page, wrong):
+    rows = [line for line in page.splitlines() if line.startswith("| ")]
+    rows = [line for line in rows if not re.match(r"\| [a-z0-9 ]* \| definition \| covered by \|", line)]
+    for line in page.splitlines():
+        if re.match(r"\|.*\| *\|", line):
+            wrong(f"an empty cell: {line}")
+    for word in quoted(page):
+        if re.fullmatch(r"(proofs/)?[A-Z][A-Za-z0-9]*\.[^ ]+", word):
+            path, name = placed(word, "model")
+            declared(path, name) or wrong(f"{path} has no {name}")
+        elif re.fullmatch("[a-z_]*::[a-z_0-9]*", word):
+            crate, name = word.split("::")
+            sources = map(read, glob.glob(f"crates/{crate}/src/**/*.rt", recursive=True))
+            any(re.search(f'pub (extern "C" )?fn {name}[<(]', text) for text in sources) or wrong(f"no function {word}")
+        elif re.fullmatch("guarantees: [a-z0-9-]*", word):
+            name = word.split(": ")[1]
+            re.search(f"^  pub {name} :", read("crates/guarantees/specs/Theorems.antt"), re.M) or wrong(f"no theorem {name}")
+    for label in quoted("\n".join(re.findall("must-fail .*", page))):
+        glob.glob(f"crates/*/must-fail/{label}.edit") or wrong(f"no must-fail edit {label}")
+    return f"{len(rows)} rows, and every name in them is there"
+
+
+def guarantees(page, wrong):
+    """`File.name` and `proofs/File.name` are of crates/guarantees, `CRATE: File.name` of another."""
+    count = 0
+    for word in quoted(page):
+        found = re.fullmatch(r"(?:([a-z_]+): )?((?:proofs/)?[A-Z][A-Za-z0-9]*\.[A-Za-z][A-Za-z0-9-]*)", word)
+        if found and not re.search(r"\.(md|antt)$|File\.name$", word):
+            count += 1
+            path, name = placed(found[2], found[1] or "guarantees")
+            declared(path, name) or wrong(f"{path} has no {name}")
+    edits = {path.split("/")[-1][: -len(".edit")] for path in glob.glob("crates/guarantees/must-fail/*.edit")}
+    rows = re.compile(r"^\| `([A-Za-z_0-9]*)` \|", re.M)
+    for label in sorted(edits - set(rows.findall(page))):
+        wrong(f"it does not list the must-fail edit {label}")
+    tried = re.search("^## Try.*", page, re.M | re.S)
+    for label in rows.findall(tried[0] if tried else ""):
+        label in edits or wrong(f"no must-fail edit {label}")
+    return f"{count + len(edits)} names, and each is there"
+
+
+def differences(page, wrong):
+    rows, entries = [], []
+    blocks = {"trace": {}, "lines": {}}
+
+    def close(number, parts, traces, lines, excused):
+        parts == ["Arm", "The Rust", "The port", "For a recording"] or wrong(f"{number} lacks a part, or has them in another order")
+        traces == lines or wrong(f"{number}: a trace without lines, or lines without a trace")
+        traces or excused or wrong(f"{number} has no trace, and does not say that none can show it")
+        traces and excused and wrong(f"{number} has a trace, and says that none can show it")
+
+    entry = None
+    for piece in [*pieces(page), "#"]:  # a heading closes the last entry
+        if isinstance(piece, tuple):
+            head, text = piece
+            kind, _, name = head[3:].partition(" ")
+            if text is None or kind not in blocks:
+                wrong(f"a block that does not end, or is neither trace nor lines: {head}")
+            elif not entry or not name.startswith(f"difference-{entry['number']}-"):
+                wrong(f"{name} stands in another entry")
+            elif name in blocks[kind]:
+                wrong(f"{name} stands twice")
+            else:
+                blocks[kind][name] = text
+                entry["traces" if kind == "trace" else "lines"] += 1
+        elif re.match(r"\| [RS][0-9]+ \|", piece):
+            number, title, verdict = (piece[2:].removesuffix(" |").split(" | ") + ["", ""])[:3]
+            rows.append(f"{number}. {title}")
+            if not re.match("(yes|no|only with a faulty driver|only with a faulty host)($|[,:])", verdict):
+                wrong(f"{number}: no verdict in the table")
+        elif piece.startswith("#"):
+            if entry:
+                close(**entry)
+            found = re.match(r"### (([RS][0-9]+)\. .*)", piece)
+            entry = found and {"number": found[2], "parts": [], "traces": 0, "lines": 0, "excused": False}
+            if found:
+                entries.append(found[1])
+        elif entry:
+            entry["parts"] += re.findall(r"^- \*\*(Arm|The Rust|The port|For a recording)\.\*\* ", piece)
+            entry["excused"] |= piece.startswith("No trace can show ")
+    if rows != entries:
+        wrong("the tables and the entries differ:\n" + "\n".join(difflib.unified_diff(rows, entries, "tables", "entries", n=0, lineterm="")))
+    len(set(entries)) == len(entries) or wrong("an entry stands twice")
+    for name, text in blocks["trace"].items():
+        held(wrong, text, f"oracle/traces/{name}.txt")
+        held(wrong, blocks["lines"].get(name), f"{RECORDED}/{name}.expect")
+    for pattern in "oracle/traces/difference-*.txt", f"{RECORDED}/difference-*.expect":
+        for path in sorted(glob.glob(pattern)) or [pattern]:
+            path.split("/")[-1].rsplit(".", 1)[0] in blocks["trace"] or wrong(f"{path} is not in it")
+    for ten, sixteen in re.findall("([0-9]+) is 0x([0-9A-Fa-f]+)", page):
+        int(ten) == int(sixteen, 16) or wrong(f"{ten} is not 0x{sixteen}")
+    return f"{len(entries)} entries, {len(blocks['trace'])} of them with a trace, as in the files"
+
+
+def visit(page, wrong):
+    blocks = [piece for piece in pieces(page) if isinstance(piece, tuple)]
+    for name in "second-visit", "second-visit-unmapped":
+        for kind, path in ("trace", f"oracle/traces/{name}.txt"), ("lines", f"{RECORDED}/{name}.expect"):
+            held(wrong, "".join(text or "" for head, text in blocks if head == f"```{kind} {name}"), path)
+    return "two traces and their lines, as in the files"
+
+
+def replay(write, wrong):
+    args, lines = [], 0
+    for folder in "recorded", "linux":
+        for path in sorted(glob.glob(f"crates/replay/data/{folder}/*.trace")):
+            expect = path[: -len("trace")] + "expect"
+            read(expect) or wrong(f"{path} has no lines beside it")
+            args += [path[len("crates/replay/data/") :], expect[len("crates/replay/data/") :]]
+            lines += read(expect).count("\n")
+    traces = len(args) // 2
+    for file, text in ("args", "".join(word + "\n" for word in args)), ("stdout", f"{traces} traces with {lines} lines agree, 0 differ\n"):
+        if write:
+            open(f"crates/replay/{file}", "w").write(text)
+        read(f"crates/replay/{file}") == text or wrong(f"{file} is not what its data says: run 'tools/documents.sh write'")
+    return f"{traces} traces, {lines} lines"
+
+
+if sys.argv[1:] not in ([], ["write"]):
+    sys.exit("usage: tools/documents.sh [write]")
+failed = False
+pages = {"SENTENCES": sentences, "GUARANTEES": guarantees, "DIFFERENCES": differences, "SECOND-VISIT": visit}
+checks = [(f"docs/{name}.md", check, read(f"docs/{name}.md")) for name, check in pages.items()] + [("crates/replay", replay, sys.argv[1:])]
+for name, check, given in checks[-1:] if sys.argv[1:] else checks:
+    complaints = []
+    summary = check(given, complaints.append)
+    for said in complaints or [summary]:
+        print(f"documents: {name}: {said}")
+    failed |= bool(complaints)
+sys.exit(failed)
+PY
