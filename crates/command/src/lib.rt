@@ -7,7 +7,6 @@ use model::Applied;
 use model::Command;
 use model::Executed;
 use model::ItsState;
-use model::LpiId;
 ghost use mathlib.Core.Path.{_≡_};
 ghost use Rattle.model.specs.Step.{execution};
 
@@ -42,12 +41,12 @@ pub fn execute(unit: ItsState, x: Command) -> Applied
             event,
             lpi,
             collection,
-        } => crate::maps::map_translation(unit, device, event, lpi, collection),
+        } => crate::maps::map_lpi(unit, device, event, lpi, collection),
         Command::Mapi {
             device,
             event,
             collection,
-        } => crate::maps::map_translation(unit, device, event, LpiId(event.0), collection),
+        } => crate::maps::map_event(unit, device, event, collection),
         Command::Movi {
             device,
             event,

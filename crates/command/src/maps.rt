@@ -13,7 +13,7 @@ use model::LpiId;
 use model::Refusal;
 use model::Translation;
 ghost use mathlib.Core.Path.{_≡_};
-ghost use Rattle.model.specs.declared.Command.the-variants.{Mapd, Mapc, Mapti};
+ghost use Rattle.model.specs.declared.Command.the-variants.{Mapd, Mapc, Mapti, Mapi};
 ghost use Rattle.model.specs.Step.{lpiInRange, execution};
 
 pub fn map_device(unit: ItsState, device: ItsDeviceId, event_bits: u8, valid: bool) -> Applied
@@ -79,7 +79,8 @@ fn lpi_in_range(config: ItsConfig, lpi: LpiId) -> bool
     (8192 <= lpi.0) & (lpi.0 <= config.lpi_limit)
 }
 
-pub fn map_translation(
+// What MAPTI and MAPI share. (Each has a function of its own below, called from one place: the compiler then copies the unit less often.)
+fn map_translation(
     unit: ItsState,
     device: ItsDeviceId,
     event: EventId,
@@ -120,4 +121,29 @@ pub fn map_translation(
     let mut next = unit;
     next.translations[at] = r;
     crate::carried(next, Executed::Done)
+}
+
+// MAPTI: the pair goes to an LPI that the command names.
+pub fn map_lpi(
+    unit: ItsState,
+    device: ItsDeviceId,
+    event: EventId,
+    lpi: LpiId,
+    collection: CollectionId,
+) -> Applied
+    ensures { λ r. ⌜ r ≡ execution unit (Mapti device event lpi collection) ⌝ }
+{
+    map_translation(unit, device, event, lpi, collection)
+}
+
+// MAPI: the LPI has the event's number.
+pub fn map_event(
+    unit: ItsState,
+    device: ItsDeviceId,
+    event: EventId,
+    collection: CollectionId,
+) -> Applied
+    ensures { λ r. ⌜ r ≡ execution unit (Mapi device event collection) ⌝ }
+{
+    map_translation(unit, device, event, LpiId(event.0), collection)
 }

@@ -6,7 +6,6 @@ pub mod pairs;
 use lent_tables::Numbers;
 use model::Command;
 use model::Executed;
-use model::LpiId;
 ghost use Rattle.lent_tables.specs.Numbers.{Carries};
 
 pub fn execute(state: &mut Numbers, x: Command) -> Executed
@@ -28,12 +27,12 @@ pub fn execute(state: &mut Numbers, x: Command) -> Executed
             event,
             lpi,
             collection,
-        } => crate::maps::map_translation(state, device, event, lpi, collection),
+        } => crate::maps::map_lpi(state, device, event, lpi, collection),
         Command::Mapi {
             device,
             event,
             collection,
-        } => crate::maps::map_translation(state, device, event, LpiId(event.0), collection),
+        } => crate::maps::map_event(state, device, event, collection),
         Command::Movi {
             device,
             event,

@@ -12,7 +12,7 @@ use model::Refusal;
 use model::Translation;
 ghost use mathlib.Core.Path.{_≡_};
 ghost use mathlib.Core.Bool.{true};
-ghost use Rattle.model.specs.declared.Command.the-variants.{Mapd, Mapc, Mapti};
+ghost use Rattle.model.specs.declared.Command.the-variants.{Mapd, Mapc, Mapti, Mapi};
 ghost use Rattle.model.specs.Config.{listed};
 ghost use Rattle.model.specs.Step.{lpiInRange};
 ghost use Rattle.lent_tables.specs.Numbers.{configIn, Carries};
@@ -82,7 +82,8 @@ fn lpi_in_range(state: &Numbers, lpi: LpiId) -> bool
     (8192 <= lpi.0) & (lpi.0 as u64 <= limit)
 }
 
-pub fn map_translation(
+// What MAPTI and MAPI share.
+fn map_translation(
     state: &mut Numbers,
     device: ItsDeviceId,
     event: EventId,
@@ -119,4 +120,29 @@ pub fn map_translation(
     };
     lent_tables::put_translation(state, at, r);
     Executed::Done
+}
+
+// MAPTI: the pair goes to an LPI that the command names.
+pub fn map_lpi(
+    state: &mut Numbers,
+    device: ItsDeviceId,
+    event: EventId,
+    lpi: LpiId,
+    collection: CollectionId,
+) -> Executed
+    ensures { λ r. ⌜ Carries (now (state .entry)) (Mapti device event lpi collection) r (now (state .exit)) ⌝ }
+{
+    map_translation(state, device, event, lpi, collection)
+}
+
+// MAPI: the LPI has the event's number.
+pub fn map_event(
+    state: &mut Numbers,
+    device: ItsDeviceId,
+    event: EventId,
+    collection: CollectionId,
+) -> Executed
+    ensures { λ r. ⌜ Carries (now (state .entry)) (Mapi device event collection) r (now (state .exit)) ⌝ }
+{
+    map_translation(state, device, event, LpiId(event.0), collection)
 }

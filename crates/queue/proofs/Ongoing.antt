@@ -1,32 +1,39 @@
 -- The turns of a write add up to the model's run: what each part of a turn comes to, and what is known between two turns.
 -- Assumes nothing.
-use Prim.Native.Nat.{ℕ, _+_, _<_, _≤_}
+use Prim.Native.Nat.{ℕ, _<_, _≤_}
 use native.Mathlib.Omega.{arith}
 use mathlib.Core.Path.{_≡_, refl, sym, ap, ap₂, subst, _∙_}
-use mathlib.Core.Bool.{true, false}
+use mathlib.Core.Bool.{Bool, true, false}
 use mathlib.Core.List.{List, [], _∷_, _++_}
 use lib.Dec.{leb}
-use lib.ListN.{length, set, drop, length-set}
+use lib.ListN.{length, set, drop}
 use borrow.Author.Tests.{ltb-true, ltb-false, le-leb, lt-leb}
 use Rattle.model.specs.declared.ItsState.{ItsState}
+use Rattle.model.specs.declared.ItsRegisters.{ItsRegisters}
 use Rattle.model.specs.declared.ItsAction.{ItsAction}
+use Rattle.model.specs.declared.Command.{Command}
+use Rattle.model.specs.declared.Executed.{Executed}
+use Rattle.model.specs.declared.Executed.the-variants.{NotDone, Done, Acted}
 use Rattle.model.specs.declared.Refusal.the-variants.{BudgetExceeded}
-use Rattle.model.specs.Choose.{if_then_else_, _or_then_}
-use Rattle.model.specs.Queue.{Window, Turn, turn, waiting, commandAddress, run}
+use Rattle.model.specs.Choose.{if_then_else_}
+use Rattle.model.specs.With.{withRegisters}
+use Rattle.model.specs.Step.{check, stepped, executed}
+use Rattle.model.specs.Queue.{Window, Stands, Turn, turn, waiting, commandAddress, judged, pastCommand, run}
 use Rattle.model.specs.Entry.{rowAfter, afterRun}
 use Rattle.model.proofs.Cases.{cases, never}
 use Rattle.model.proofs.Answers.{both-hold, second-fails, first-fails}
+use Rattle.model.proofs.RunLaws.{stands-stepped, stands-past}
 use Rattle.model.proofs.RowLaws.{rowOf, row-long, rowPast, row-on, row-same}
 use Rattle.answers.specs.declared.Turned.{Turned}
 use Rattle.answers.specs.declared.Counts.{Counts}
 use Rattle.answers.specs.Counting.{handedBy, acts, begun, halted, countedOn}
-use Rattle.answers.proofs.Turning.{Turning, one-by}
+use Rattle.answers.proofs.Turning.{Turning, one-by, is-refused, is-done, is-acted}
 use Rattle.answers.proofs.Counting.{Counting, begins, stands, fits, room, turns, fewer, unit-ends, actions-end, answer-ends}
 use Rattle.decoding.specs.declared.CommandRead.{CommandRead}
 use Rattle.decoding.specs.Reading.{commandRead, turnRead}
 use Rattle.decoding.proofs.Turning.{turn-reads}
 use Rattle.queue.specs.declared.Progress.{Progress}
-use Rattle.queue.specs.Ongoing.{Ready, Begun, noAction, firstOf, progressOf, firstCounts, turnedOn, turnOf, finishOf, endOf}
+use Rattle.queue.specs.Ongoing.{Ready, Begun, noAction, firstOf, progressWith, progressOf, firstCounts, turnedIn, handedIn, turnedOn, turnOf, finishOf, endOf}
 
 -- The counts before the first turn.
 module _ (u : ItsState) where
@@ -48,6 +55,34 @@ pub moves-on : (t : Progress) {y : Turn} {v : ItsState} {turned : Turned} {hande
     {n : Counts} → n ≡ countedOn (t .counts) turned → {r : Progress} → r ≡ progressOf v n handed (t .counts .actions) → r ≡ turnedOn t y
 unfolding turnedOn
 moves-on t k c e = e ∙ rw (k .unit, c, k .told, k .actions) refl
+
+-- A command that was read and is known: e is what carrying it out came to, m the unit after that, and g the registers that are left.
+module _ (t : Progress) (x : Command) (opcode : ℕ) {m : ItsState} (after : m ≡ stepped (t .unit) x) where
+  acted-in : (e : Executed) → turnedIn e opcode .acted ≡ acts (handedIn e)
+  acted-in (NotDone why) = refl
+  acted-in Done = refl
+  acted-in (Acted a) = refl
+
+  turning-in : (e : Executed) → e ≡ executed (t .unit) x → {g : ItsRegisters} → g ≡ (if turnedIn e opcode .passed then pastCommand (m .registers) else m .registers) →
+      Turning (t .unit) (judged (check (t .unit) x) x opcode) (withRegisters m g) (turnedIn e opcode) (handedIn e)
+  turning-in (NotDone why) k p = rw p (is-refused (t .unit) x opcode after k refl)
+  turning-in Done k p = rw p (is-done (t .unit) x opcode after refl k refl)
+  turning-in (Acted a) k p = rw p (is-acted (t .unit) x opcode after refl k refl)
+
+  stands-in : Stands m → (passed : Bool) {g : ItsRegisters} → g ≡ (if passed then pastCommand (m .registers) else m .registers) → Stands (withRegisters m g)
+  stands-in h true p = rw p (stands-past m refl)
+  stands-in h false p = rw p h
+
+  module _ {e : Executed} (came : e ≡ executed (t .unit) x) {turned : Turned} (told : turned ≡ turnedIn e opcode) {g : ItsRegisters}
+      (read : g ≡ (if turned .passed then pastCommand (m .registers) else m .registers)) where
+    pub carried-stands : Stands (t .unit) → Stands (withRegisters m g)
+    carried-stands h = stands-in (stands-stepped (t .unit) x h after) (turned .passed) read
+
+    pub carried-on : {n : Counts} → n ≡ countedOn (t .counts) turned → {action : ItsAction} → action ≡ firstOf (handedIn e) → {r : Progress} →
+        r ≡ progressWith (withRegisters m g) n (turned .acted) action (t .counts .actions) → r ≡ turnedOn t (judged (check (t .unit) x) x opcode)
+    carried-on c a s =
+        moves-on t (turning-in e came (read ∙ ap (λ y. if y .passed then pastCommand (m .registers) else m .registers) told)) (c ∙ ap (countedOn (t .counts)) told)
+        (s ∙ rw (a, told, acted-in e) refl)
 
 -- Between two turns of a write that began as t₀ with the row row₀: t is the write now, and row the row.
 
@@ -185,6 +220,3 @@ module _ (w : Window) (t₀ : Progress) (row₀ : List ItsAction) where
     pub running-ends : Running t row → (finishOf t ≡ endOf w t₀ row₀ .written) × (row ≡ endOf w t₀ row₀ .row)
     running-ends (quiet h e l) = rw h (ap finishOf e, l)
     running-ends (counted g) = end-counted g
-
-  pub laid-long : (t : Progress) (row : List ItsAction) → length (laid t row) ≡ length row
-  laid-long t row = cases (t .acted) (λ h. rw h (length-set row (t .at) (t .action))) (λ h. rw h refl)

@@ -3,19 +3,22 @@
 -- Assumes nothing.
 use Prim.Native.Nat.{ℕ, _+_, _<_, _≤_}
 use mathlib.Core.Path.{_≡_}
-use mathlib.Core.Bool.{true, false}
+use mathlib.Core.Bool.{Bool, true, false}
 use mathlib.Core.List.{List, [], _∷_}
 use lib.Dec.{leb, ltb}
 use Rattle.model.specs.declared.ItsState.{ItsState}
 use Rattle.model.specs.declared.ItsAction.{ItsAction}
+use Rattle.model.specs.declared.Executed.{Executed}
+use Rattle.model.specs.declared.Executed.the-variants.{NotDone, Done, Acted}
 use Rattle.model.specs.declared.WriteAnswer.{WriteAnswer}
 use Rattle.model.specs.declared.Written.{Written}
 use Rattle.model.specs.declared.Refusal.the-variants.{BudgetExceeded}
 use Rattle.model.specs.Choose.{if_then_else_, _or_then_}
 use Rattle.model.specs.Queue.{Window, Stands, Turn, waiting, commandAddress, run}
 use Rattle.model.specs.Entry.{Outcome, afterRun}
+use Rattle.answers.specs.declared.Turned.{Turned}
 use Rattle.answers.specs.declared.Counts.{Counts}
-use Rattle.answers.specs.Counting.{unitPast, handedBy, acts, turnedBy, begun, halted, countedOn, answering}
+use Rattle.answers.specs.Counting.{unitPast, handedBy, acts, passing, staying, turnedBy, begun, halted, countedOn, answering}
 use Rattle.decoding.specs.declared.CommandRead.{CommandRead}
 use Rattle.decoding.specs.Reading.{turnRead}
 use Rattle.queue.specs.declared.Progress.{Progress}
@@ -34,19 +37,23 @@ abbrev pub firstOf : List ItsAction → ItsAction
 firstOf [] = noAction
 firstOf (a ∷ l) = a
 
--- the unit and the counts, with what the last turn handed over and its place in the row
-abbrev pub progressOf : ItsState → Counts → List ItsAction → ℕ → Progress
-progressOf u n handed at =
+-- the unit and the counts; whether the last turn made an action, which, and its place in the row
+abbrev pub progressWith : ItsState → Counts → Bool → ItsAction → ℕ → Progress
+progressWith u n acted action at =
     record {
       more = ltb 0 (n .left);
-      acted = acts handed;
+      acted = acted;
       wanted = commandAddress (u .registers) (u .registers .creadr);
       at = at;
-      action = firstOf handed;
+      action = action;
       counts = n;
       answer = answering n (u .registers .creadr);
       unit = u;
     }
+
+-- the same from what the last turn handed over
+abbrev pub progressOf : ItsState → Counts → List ItsAction → ℕ → Progress
+progressOf u n handed at = progressWith u n (acts handed) (firstOf handed) at
 
 -- the counts before the first turn: 5 is tested once
 unfoldable pub firstCounts : ItsState → Counts
@@ -57,6 +64,17 @@ firstCounts u =
 
 unfoldable pub startOf : ItsState → Progress
 startOf u = progressOf u (firstCounts u) [] 0
+
+-- a turn whose command came to this: its account, and what it hands over
+abbrev pub turnedIn : Executed → ℕ → Turned
+turnedIn (NotDone why) opcode = staying why opcode
+turnedIn Done opcode = passing false
+turnedIn (Acted a) opcode = passing true
+
+abbrev pub handedIn : Executed → List ItsAction
+handedIn (NotDone why) = []
+handedIn Done = []
+handedIn (Acted a) = a ∷ []
 
 -- a turn
 unfoldable pub turnedOn : Progress → Turn → Progress

@@ -3,6 +3,7 @@
 // store the action.
 use answers::Counts;
 use answers::Stopped;
+use answers::Turned;
 use decoding::CommandRead;
 use model::Command;
 use model::Decoded;
@@ -17,14 +18,15 @@ use model::WriteAnswer;
 use model::Written;
 use window::GuestWindow;
 ghost use mathlib.Core.Path.{_≡_};
-ghost use mathlib.Core.List.{[], _∷_};
+ghost use mathlib.Core.List.{[]};
 ghost use Prim.Native.Nat.{_<_};
 ghost use lib.ListN.{length};
-ghost use Rattle.model.specs.With.{withRegisters};
+ghost use Rattle.model.specs.Choose.{if_then_else_};
+ghost use Rattle.model.specs.Config.{queueSize};
 ghost use Rattle.model.specs.Step.{check};
 ghost use Rattle.model.specs.Queue.{Stands, waiting as waitingOf, stays, judged, pastCommand};
 ghost use Rattle.decoding.specs.Reading.{lent};
-ghost use Rattle.queue.specs.Ongoing.{Ready, Begun, noAction, progressOf, firstCounts, startOf, settledOf, turnedOn, turnOf, finishOf, endOf};
+ghost use Rattle.queue.specs.Ongoing.{Ready, Begun, noAction, firstOf, progressWith, progressOf, firstCounts, startOf, settledOf, turnedIn, handedIn, turnedOn, turnOf, finishOf, endOf};
 
 // A write between two commands of its run: whether to go on, the action of the last command and its place in the row, the guest address of the command
 // on which CREADR stands, the counts, the answer if nothing more is done, and the unit. (What `process_commands` reads stands first: its
@@ -58,23 +60,23 @@ fn no_action() -> ItsAction
     }
 }
 
-// The unit and the counts after a turn that made no action.
-fn quiet(unit: ItsState, counts: Counts, at: usize) -> Progress
+// The unit and the counts after a turn, with its action.
+fn stand(unit: ItsState, counts: Counts, acted: bool, action: ItsAction, at: usize) -> Progress
     requires { ⌜ Stands unit ⌝ }
-    ensures { λ r. ⌜ r ≡ progressOf unit counts [] at ⌝ }
+    ensures { λ r. ⌜ r ≡ progressWith unit counts acted action at ⌝ }
 {
     let registers = unit.registers;
     let base = words::queue_base(registers.cbaser);
     let wanted = base + registers.creadr;
     let answer = answers::answer_of(counts, registers.creadr);
-    let action = no_action();
     let n = counts;
+    let a = action;
     let u = unit;
     Progress {
         more: 0 < n.left,
-        acted: false,
+        acted: acted,
         at: at,
-        action: action,
+        action: a,
         wanted: wanted,
         counts: n,
         answer: answer,
@@ -82,16 +84,13 @@ fn quiet(unit: ItsState, counts: Counts, at: usize) -> Progress
     }
 }
 
-// The same with an action.
-fn acting(unit: ItsState, counts: Counts, action: ItsAction, at: usize) -> Progress
+// The same after a turn that made no action.
+fn quiet(unit: ItsState, counts: Counts, at: usize) -> Progress
     requires { ⌜ Stands unit ⌝ }
-    ensures { λ r. ⌜ r ≡ progressOf unit counts (action ∷ []) at ⌝ }
+    ensures { λ r. ⌜ r ≡ progressOf unit counts [] at ⌝ }
 {
-    let mut t = quiet(unit, counts, at);
-    let a = action;
-    t.acted = true;
-    t.action = a;
-    t
+    let action = no_action();
+    stand(unit, counts, false, action, at)
 }
 
 fn first_counts(unit: ItsState) -> Counts
@@ -146,17 +145,39 @@ fn halt(t: Progress, why: Refusal, opcode: u8) -> Progress
     quiet(unit, next, counts.actions)
 }
 
-// CREADR passes a command.
-fn pass_command(unit: ItsState) -> ItsState
-    requires { ⌜ Stands unit ⌝ }
-    ensures { λ r. ⌜ r ≡ withRegisters unit (pastCommand (unit .registers)) ⌝ }
+// What a command that came to this makes of the run, and the action that it hands over.
+fn turned_by(e: Executed, opcode: u8) -> Turned
+    ensures { λ r. ⌜ r ≡ turnedIn e opcode ⌝ }
 {
-    let mut registers = unit.registers;
+    match e {
+        Executed::NotDone(why) => answers::stays(why, opcode),
+        Executed::Done => answers::passes(false),
+        Executed::Acted(_) => answers::passes(true),
+    }
+}
+
+fn action_of(e: Executed) -> ItsAction
+    ensures { λ r. ⌜ r ≡ firstOf (handedIn e) ⌝ }
+{
+    match e {
+        Executed::NotDone(_) => no_action(),
+        Executed::Done => no_action(),
+        Executed::Acted(a) => a,
+    }
+}
+
+// CREADR passes a command that was carried out.
+fn pass_command(registers: ItsRegisters, passed: bool) -> ItsRegisters
+    requires { ⌜ registers .creadr < queueSize (registers .cbaser) ⌝ }
+    ensures { λ r. ⌜ r ≡ (if passed then pastCommand registers else registers) ⌝ }
+{
+    if !passed {
+        return registers;
+    }
     let size = words::queue_size(registers.cbaser);
     let next = registers.creadr + 32;
-    registers.creadr = next % size;
-    let mut left = unit;
-    left.registers = registers;
+    let mut left = registers;
+    left.creadr = next % size;
     left
 }
 
@@ -168,23 +189,14 @@ fn carry_out(t: Progress, x: Command, opcode: u8) -> Progress
     let unit = t.unit;
     let counts = t.counts;
     let applied = command::execute(unit, x);
-    let changed = applied.unit;
     let e = applied.executed;
-    match e {
-        Executed::NotDone(why) => halt(t, why, opcode),
-        Executed::Done => {
-            let left = pass_command(changed);
-            let turned = answers::passes(false);
-            let next = answers::counted(counts, turned);
-            quiet(left, next, counts.actions)
-        }
-        Executed::Acted(a) => {
-            let left = pass_command(changed);
-            let turned = answers::passes(true);
-            let next = answers::counted(counts, turned);
-            acting(left, next, a, counts.actions)
-        }
-    }
+    let turned = turned_by(e, opcode);
+    let next = answers::counted(counts, turned);
+    let action = action_of(e);
+    let mut left = applied.unit;
+    let registers = pass_command(left.registers, turned.passed);
+    left.registers = registers;
+    stand(left, next, turned.acted, action, counts.actions)
 }
 
 // One command.

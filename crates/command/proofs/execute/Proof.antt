@@ -14,11 +14,10 @@ returns-2 : tie.Need-returns-2
 returns-2 c = rw (c .before .before .x2 .given .1) (c .map-collection .ensures)
 
 returns-3 : tie.Need-returns-3
-returns-3 c = rw (c .before .before .x3 .given .1) (c .map-translation .ensures)
+returns-3 c = rw (c .before .before .x3 .given .1) (c .map-lpi .ensures)
 
 returns-4 : tie.Need-returns-4
-unfolding executed stepped
-returns-4 c = rw (c .before .before .x4 .given .1) (c .map-translation2 .ensures)
+returns-4 c = rw (c .before .before .x4 .given .1) (c .map-event .ensures)
 
 returns-5 : tie.Need-returns-5
 returns-5 c = rw (c .before .before .x5 .given .1) (c .move-translation .ensures)

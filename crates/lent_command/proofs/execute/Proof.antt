@@ -5,7 +5,7 @@ use mathlib.Core.Path.{refl}
 use borrow.Author.Needs.{needs}
 use Rattle.model.specs.Step.{executed, stepped}
 use Rattle.lent_tables.specs.Numbers.{unitIn}
-use Rattle.model.proofs.CommandLaws.{as-mapti, int-keeps, clear-keeps, inv-keeps, invall-keeps}
+use Rattle.model.proofs.CommandLaws.{int-keeps, clear-keeps, inv-keeps, invall-keeps}
 use Rattle.lent_command.proofs.execute.Statement.{statement}
 use Rattle.lent_command.proofs.execute.Tie as tie
 
@@ -16,10 +16,10 @@ returns-2 : tie.Need-returns-2
 returns-2 c = rw (c .before .before .before .x2 .given .1) (c .map-collection .ensures)
 
 returns-3 : tie.Need-returns-3
-returns-3 c = rw (c .before .before .before .x3 .given .1) (c .map-translation .ensures)
+returns-3 c = rw (c .before .before .before .x3 .given .1) (c .map-lpi .ensures)
 
 returns-4 : tie.Need-returns-4
-returns-4 c = rw (c .before .before .before .x4 .given .1) (as-mapti _ _ _ _ (c .map-translation2 .ensures))
+returns-4 c = rw (c .before .before .before .x4 .given .1) (c .map-event .ensures)
 
 returns-5 : tie.Need-returns-5
 returns-5 c = rw (c .before .before .before .x5 .given .1) (c .move-translation .ensures)

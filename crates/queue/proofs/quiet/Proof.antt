@@ -5,10 +5,7 @@ use Rattle.queue.proofs.quiet.Statement.{statement}
 use Rattle.queue.proofs.quiet.Tie as tie
 
 returns : tie.Need-returns
-returns c = rw (c .before .no-action .ensures, c .before .before .answer-of .ensures, c .before .before .before .before .queue-base .ensures)
+returns c = rw (c .stand .ensures, c .before .no-action .ensures)
 
 pub quiet-spec : {M : Type 1} → statement M
-quiet-spec =
-    tie.close
-    (tie.spec
-    (λ c κs. search needs) (λ c. search needs) (λ c κs. search needs) (λ c κs. search needs) returns)
+quiet-spec = tie.close (tie.spec (λ c κs. search needs) (λ c κs. search needs) returns)
