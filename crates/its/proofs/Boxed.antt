@@ -11,6 +11,7 @@ use ghost.Atoms.{Atoms}
 use types.Kit.{Given}
 use denote.Laws.{Is}
 use denote.Struct.Laws as LL
+use Rattle.window.proofs.Walk.{of-struct}
 use Rattle.model.specs.declared.ItsState.{ItsState}
 use Rattle.model.proofs.ItsState as S
 use Rattle.model.proofs.ItsState.Laws as S′
@@ -30,8 +31,8 @@ vS = LL.val S.the-type S′.the-laws
 module _ {M : Type 1} (𝓤 : URA M) (H : Heap 𝓤) (A : Atoms 𝓤) (G : Given 𝓤 H A) where
   pub S-typed : (u : ItsState) (w : Val) → Is S.the-row u (w ∷ []) → Holds (hasTy τS w) × WT w
   unfolding τS
-  S-typed u w is = LL.lawful S.the-type S′.the-laws 𝓤 H A G .typed u _ is .0
+  S-typed u w is = of-struct G S.the-type S′.the-laws u _ is
 
   pub O-typed : (r : WrittenRow) (w : Val) → Is O.the-row r (w ∷ []) → Holds (hasTy τO w) × WT w
   unfolding τO
-  O-typed r w is = LL.lawful O.the-type O′.the-laws 𝓤 H A G .typed r _ is .0
+  O-typed r w is = of-struct G O.the-type O′.the-laws r _ is
