@@ -8,8 +8,11 @@ use Rattle.guarantees.proofs.Along.{actions-firm}
 use Rattle.guarantees.proofs.Firmness.{firm-entries, answered-entries}
 use Rattle.guarantees.proofs.AsWrites.{lent-writes, call-writes}
 use Rattle.guarantees.proofs.Kept.{ring-kept, commands-kept}
-use Rattle.guarantees.proofs.Leaves.{refusal-kept, refusal-leaves, read-leaves, translate-leaves}
-use Rattle.guarantees.proofs.Unsound.{unsound-answers-1, no-unit-answers-1, refused-configuration}
+use Rattle.guarantees.proofs.Refused.{refusal-kept}
+use Rattle.guarantees.proofs.Follows.{ring-follows, commands-follow, refusal-follows}
+use Rattle.guarantees.proofs.Reasons.{seven}
+use Rattle.guarantees.proofs.Leaves.{read-leaves, translate-leaves}
+use Rattle.guarantees.proofs.Unsound.{unsound-answers-1, sound-never-1, no-unit-answers-1, refused-configuration}
 use Rattle.guarantees.proofs.Again.{tries-again}
 use Rattle.guarantees.proofs.Later.{tried-later}
 
@@ -31,10 +34,14 @@ theorems =
       ring-kept = ring-kept;
       commands-kept = commands-kept;
       refusal-kept = refusal-kept;
-      refusal-leaves = refusal-leaves;
+      ring-follows = ring-follows;
+      commands-follow = commands-follow;
+      refusal-follows = refusal-follows;
+      seven = seven;
       read-leaves = read-leaves;
       translate-leaves = translate-leaves;
       unsound-answers-1 = unsound-answers-1;
+      sound-never-1 = sound-never-1;
       no-unit-answers-1 = no-unit-answers-1;
       refused-configuration = refused-configuration;
       tries-again = tries-again;

@@ -27,18 +27,19 @@ use Rattle.model.specs.History.{PairEntry, anEntry, processorNow}
 use Rattle.model.specs.Queue.{Window}
 use Rattle.model.specs.Entry.{stores}
 use Rattle.model.specs.Passed.{CarriedOut, nothing, one-more}
-use Rattle.model.specs.Promise.{SentTo, Promise}
+use Rattle.model.specs.Promise.{SentTo}
 use Rattle.model.proofs.Cases.{never}
 use Rattle.model.proofs.Agreement.{Agrees}
 use Rattle.model.proofs.Backing.{Sound}
 use Rattle.model.proofs.Mapped.{processor-of}
 use Rattle.model.proofs.Paragraph.{in-force}
-use Rattle.model.proofs.Promised.{promise}
+use Rattle.model.proofs.Promised.{Promise, promise}
 use Rattle.model.proofs.Carried.{agrees-registers, lengthened}
 use Rattle.model.proofs.Held.{Held}
 use Rattle.its.specs.Contracts.{Writes}
 use Rattle.guarantees.specs.Actions.{passedBy, intsAndClears, ActionsOf, none-passed, an-int, a-clear, another, ActionsGiven}
 use Rattle.guarantees.specs.Firm.{Firm}
+use Rattle.guarantees.proofs.Counted.{as-many}
 use Rattle.guarantees.proofs.Kept.{commands-kept}
 
 -- One more command, which the unit v accepts; v keeps the promise of the commands g ++ h before it.
@@ -85,7 +86,7 @@ actions-held {u = u} {h = h} m w row offset width value r left e =
     let first : (n : ℕ) → length (c .handed) ≡ n → take n left ≡ c .handed =
     λ n l. ap (take n) (c .in-row) ∙ take-at (c .handed) (drop (length (c .handed)) row) n l in
     record {
-      in-row = rw (first (intsAndClears (passedBy w u r)) (c .as-many)) given;
+      in-row = rw (first (intsAndClears (passedBy w u r)) (as-many (c .carried))) given;
       handed-over = λ done actions h. rw (first actions (sym (c .taken done actions h))) given;
     }
 

@@ -131,15 +131,15 @@ calls-told {u = u} m =
           let d : ItsDeviceId = record { 0 = device } in
           let e : EventId = record { 0 = event } in
           through (told-refused (translate u d e) told (c .0) (m .only-8 d e (translate u d e) (translates-as u d e))) (m .nowhere d e (translate u d e) (translates-as u d e));
-      reads = λ offset width r told c z. m .reads offset width _ (reads-as u offset width) (read-1 (read u offset width) (sym (c .1) ∙ z));
+      reads = λ offset width r told c z. m .never-1 .reads offset width _ (reads-as u offset width) (read-1 (read u offset width) (sym (c .1) ∙ z));
       messages = λ device event r told c z.
           let d : ItsDeviceId = record { 0 = device } in
           let e : EventId = record { 0 = event } in
-          m .messages d e _ (translates-as u d e) (translation-1 (translate u d e) (sym (c .1) ∙ z));
+          m .never-1 .translates d e _ (translates-as u d e) (translation-1 (translate u d e) (sym (c .1) ∙ z));
       writes = λ w row offset width value left after r told c z.
           let (a, (x, t)) = call-writes w row u offset width value left after r told c in
           let (opcode, at, done, q) = write-1 a (sym (t .1) ∙ z) in
-          m .writes w (map actionIn row) offset width value _ _ x opcode at done q;
+          m .never-1 .writes w (map actionIn row) offset width value _ _ x opcode at done q;
     }
 
 -- THE THEOREMS.

@@ -1,21 +1,18 @@
 -- DEMAND 3 over the contracts: what every access keeps (model: Held) is kept by every answer that meets the contracts, so it holds of every unit to which
 -- calls led; and from it follows what is demanded.
 -- Assumes nothing.
-use mathlib.Core.Path.{_≡_, refl, sym, ap, subst, _∙_}
-use mathlib.Core.Bool.{true}
+use mathlib.Core.Path.{refl, sym, ap, subst, _∙_}
 use mathlib.Core.List.{List, [], _++_}
 use Rattle.model.specs.declared.ItsConfig.{ItsConfig}
 use Rattle.model.specs.declared.ItsState.{ItsState}
 use Rattle.model.specs.declared.Command.{Command}
-use Rattle.model.specs.declared.Refusal.the-variants.{Unsound, ResourceNotFound}
 use Rattle.model.specs.Entry.{stores}
-use Rattle.model.proofs.Cases.{never}
-use Rattle.model.proofs.Held.{Held, configured-held, write-held, promised, translates, nowhere, only-8, no-read-1}
+use Rattle.model.proofs.Held.{Held, configured-held, write-held, promised, translates, nowhere, only-8}
 use Rattle.guarantees.specs.Actions.{passedBy, ActionsGiven}
-use Rattle.guarantees.specs.Kept.{RingKept, CommandsKept, RefusalKept}
+use Rattle.guarantees.specs.Kept.{CommandsKept}
 use Rattle.guarantees.specs.MappingsInForce.{Led, begins, a-read, a-translation, a-write, OfWritesTo, MappingsInForce}
-use Rattle.guarantees.proofs.Kept.{ring-kept, commands-kept}
-use Rattle.guarantees.proofs.Leaves.{refusal-kept}
+use Rattle.guarantees.proofs.Kept.{commands-kept}
+use Rattle.guarantees.proofs.Unsound.{sound-never-1}
 use Rattle.guarantees.proofs.Along.{actions-held}
 
 -- a unit to which calls led agrees with the history
@@ -26,11 +23,10 @@ held (a-translation l d e r q) = held l
 held {k} (a-write {u = u} {h = h} l w row offset width value r left e) =
     subst (λ z. Held k (z .unit) (passedBy w u z ++ h)) (sym (e .answer)) (write-held (held l) w row offset width value)
 
--- so what is demanded holds of it, with what every write keeps
-demanded : {k : ItsConfig} {u : ItsState} {h : List Command} → Held k u h → OfWritesTo u (λ w row offset width value r left. RingKept u (stores row u offset width value) r) →
-    OfWritesTo u (λ w row offset width value r left. CommandsKept w row u (stores row u offset width value) r left) →
-    OfWritesTo u (λ w row offset width value r left. RefusalKept w row u (stores row u offset width value) r left) → MappingsInForce k u h
-demanded m ring commands refusals =
+-- so what is demanded holds of it, with what every write keeps of the commands
+demanded : {k : ItsConfig} {u : ItsState} {h : List Command} → Held k u h →
+    OfWritesTo u (λ w row offset width value r left. CommandsKept w row u (stores row u offset width value) r left) → MappingsInForce k u h
+demanded {u = u} m commands =
     record {
       config = m .config;
       sound = m .sound;
@@ -39,21 +35,13 @@ demanded m ring commands refusals =
       only-8 = λ d e r q why h. only-8 m d e why (sym (q .answer) ∙ h);
       numbers = λ d e r q why h. rw (h, only-8 m d e why (sym (q .answer) ∙ h)) refl;
       backed = promised m .backed;
-      reads = λ offset width r q h. no-read-1 m offset width (sym (q .answer) ∙ h);
-      messages = λ d e r q h. let eight : Unsound ≡ ResourceNotFound = only-8 m d e Unsound (sym (q .answer) ∙ h) in never true refl (cc);
-      writes = λ w row offset width value r left e. refusals w row offset width value r left e .never-1 (m .sound);
-      ring = ring;
+      never-1 = sound-never-1 u (m .sound);
       commands = commands;
-      refusals = refusals;
     }
 
 -- THE THEOREMS.
 pub mappings-in-force : {k : ItsConfig} {u : ItsState} {h : List Command} → Led k u h → MappingsInForce k u h
-mappings-in-force {u = u} l =
-    let m = held l in
-    demanded m (λ w row offset width value r left e. ring-kept w row u offset width value r left e (m .sound))
-    (λ w row offset width value r left e. commands-kept w row u offset width value r left e)
-    (λ w row offset width value r left e. refusal-kept w row u offset width value r left e)
+mappings-in-force {u = u} l = demanded (held l) (λ w row offset width value r left e. commands-kept w row u offset width value r left e)
 
 pub actions-given : {k : ItsConfig} {u : ItsState} {h : List Command} → Led k u h → OfWritesTo u (λ w row offset width value r left. ActionsGiven h w u r left)
 actions-given l = actions-held (held l)

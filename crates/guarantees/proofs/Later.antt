@@ -29,7 +29,9 @@ use Rattle.model.proofs.Cases.{cases, and-left, and-right}
 use Rattle.its.specs.Contracts.{Writes}
 use Rattle.guarantees.specs.Refusals.{at-command, givenAt}
 use Rattle.guarantees.specs.Retries.{Tries, TriedLater}
-use Rattle.guarantees.proofs.Leaves.{stopped-at}
+use Rattle.guarantees.proofs.Kept.{ring-kept, commands-kept}
+use Rattle.guarantees.proofs.Refused.{refusal-kept}
+use Rattle.guarantees.proofs.Follows.{commands-follow, refusal-follows}
 use Rattle.guarantees.proofs.Again.{tries-again}
 
 -- A CTLR write to a sound unit, with a row that has room.
@@ -72,17 +74,19 @@ module _ (u : ItsState) (row : List ItsAction) (value : ℕ) (sound : soundUnit 
 module _ (w : Window) (row : List ItsAction) (u : ItsState) (offset width value : ℕ) (v : Written) (left : List ItsAction) (e : Writes w row u offset width value v left) where
   pub tried-later : (why : Refusal) → givenAt why ≡ at-command → (opcode at done : ℕ) → v .answer ≡ NotTaken why opcode at done → TriedLater w v why opcode at
   tried-later why place opcode at done h =
-      let p = stopped-at w row u offset width value v left e why place opcode at done h in
+      let p = refusal-kept w row u offset width value v left e .at-a-command why place opcode at done h in
+      let q = refusal-follows w row u offset width value v left e .of-a-command why place opcode at done h in
+      let same-config = commands-follow w row u offset width value v left e (commands-kept w row u offset width value v left e) .config in
+      let sound = ring-kept w row u offset width value v left e (q .sound) .sound in
       record {
-        reader = sym (p .offset);
         again = λ w′ row′ offset′ width′ value′ r left′ e′ t. tries-again w′ row′ (v .unit) offset′ width′ value′ r left′ e′ t;
         same = λ row′ value′ r left′ e′ room enabling.
-            let same = ctlr-same (v .unit) row′ value′ (p .sound) room (p .enabled) enabling in
+            let same = ctlr-same (v .unit) row′ value′ sound room (q .still-enabled) enabling in
             let t : Tries (v .unit) (going (v .unit .registers)) = record {
               lets-run = refl;
-              enabled = p .enabled;
-              waits = omega (arith, p .waits, p .waited);
-              within = omega (arith, p .waits, p .within);
+              enabled = q .still-enabled;
+              waits = p .waits;
+              within = rw same-config (omega (arith, q .remain, q .within));
             } in
             let (answer, row-same) = tries-again w row′ (v .unit) GITS-CTLR 4 value′ r left′ e′ (rw same t) .refuses why opcode (p .fails) in
             (answer ∙ ap₂ (λ s a. record { unit = withRegisters (v .unit) (s .registers); answer = NotTaken why opcode a 0 }) same (sym (p .offset)), row-same);

@@ -8,6 +8,7 @@ pub mod Kept
 pub mod Refused
 pub mod Leaves
 pub mod Unsound
+pub mod Follows
 pub mod Along
 pub mod InForce
 pub mod ByCalls

@@ -145,13 +145,17 @@ unfolding checkRead
 read-only u offset width =
     check-only OfRead (soundUnit u) Unsound _ (inl refl) (access-only OfRead (inr (inl refl)) (inr (inr refl)) (u .config) offset width)
 
+-- that of a sound unit not with 1
+abbrev pub NotOne : Refusal → Type 0
+NotOne why = why ≡ Unsound → ⊥
+
+pub sound-read : (u : ItsState) (offset width : ℕ) → soundUnit u ≡ true → Only NotOne (checkRead (u .config) (u .registers) offset width)
+unfolding checkRead
+sound-read u offset width sound = rw sound (access-only NotOne (λ h. never true refl (cc)) (λ h. never true refl (cc)) (u .config) offset width)
+
 -- the checks of a write refuse before anything is stored
 abbrev pub Entries : Refusal → Type 0
 Entries why = givenAt why ≡ at-entry
-
--- and those of a sound unit not with 1
-abbrev pub NotOne : Refusal → Type 0
-NotOne why = why ≡ Unsound → ⊥
 
 module _ (u : ItsState) (room offset width : ℕ) where
   pub write-only : Only Entries (checkWrite (u .config) (u .registers) room offset width)
@@ -160,6 +164,7 @@ module _ (u : ItsState) (room offset width : ℕ) where
       check-only Entries (soundUnit u) Unsound _ refl
       (check-only Entries (leb (u .config .«command_budget») room) RowTooShort _ refl (access-only Entries refl refl (u .config) offset width))
 
+  -- and those of a sound unit not with 1
   pub sound-only : soundUnit u ≡ true → Only NotOne (checkWrite (u .config) (u .registers) room offset width)
   unfolding checkWrite
   sound-only sound =

@@ -2,27 +2,28 @@
 -- Assumes nothing.
 use Prim.Native.Nat.{ℕ, _<_}
 use native.Mathlib.Omega.{arith}
-use mathlib.Core.Path.{_≡_, refl, sym, subst}
+use mathlib.Core.Path.{_≡_, refl, sym, ap, subst, _∙_}
 use mathlib.Core.Bool.{true}
 use mathlib.Core.List.{List}
 use lib.ListN.{length}
 use Rattle.model.specs.declared.ItsState.{ItsState}
 use Rattle.model.specs.declared.ItsAction.{ItsAction}
+use Rattle.model.specs.declared.Register.the-variants.{Cwriter}
 use Rattle.model.specs.declared.RegisterWrite.{RegisterWrite}
 use Rattle.model.specs.declared.Refusal.{Refusal}
-use Rattle.model.specs.declared.Refusal.the-variants.{Unsound, BudgetExceeded}
+use Rattle.model.specs.declared.Refusal.the-variants.{BaseZero, WriterRefused, BudgetExceeded, LineDoesNotFit}
 use Rattle.model.specs.declared.WriteAnswer.the-variants.{Taken, NotTaken}
 use Rattle.model.specs.declared.Written.{Written}
-use Rattle.model.specs.With.{withRegisters}
-use Rattle.model.specs.Config.{soundUnit}
 use Rattle.model.specs.Queue.{Window, waiting}
-use Rattle.model.specs.Entry.{Outcome}
+use Rattle.model.specs.Register.{registerAt}
+use Rattle.model.specs.Entry.{Outcome, stores}
 use Rattle.model.proofs.Cases.{never}
-use Rattle.model.proofs.Ways.{Way, checked, no-base, no-writer, quiet, based, off, over, ran}
-use Rattle.guarantees.specs.Refusals.{at-entry, at-budget, at-command, givenAt, StopsAt}
-use Rattle.guarantees.specs.Kept.{RefusalKept}
-use Rattle.guarantees.proofs.Reasons.{Only, Entries, NotOne, write-only, sound-only}
-use Rattle.guarantees.proofs.Stopped.{stop-kind, none-left}
+use Rattle.model.proofs.Ways.{Way, checked, no-base, no-writer, quiet, based, off, over, ran, way}
+use Rattle.its.specs.Contracts.{Writes}
+use Rattle.guarantees.specs.Refusals.{at-entry, at-cwriter, at-budget, at-command, at-output, givenAt, writerOf, IfRefused}
+use Rattle.guarantees.specs.Kept.{StopsAt, RefusalKept}
+use Rattle.guarantees.proofs.Reasons.{Only, Entries, write-only}
+use Rattle.guarantees.proofs.Stopped.{stop-kind, stops, none-left}
 
 module _ (w : Window) (row : List ItsAction) (u : ItsState) (offset width value : ℕ) where
   too-many : {s : RegisterWrite} {o : Outcome} → Way w row u offset width value s o → s .runs ≡ true → s .registers .enabled ≡ true →
@@ -52,16 +53,80 @@ module _ (w : Window) (row : List ItsAction) (u : ItsState) (offset width value 
       let place : at-budget ≡ at-command = stop-kind w row u offset width value s g on within BudgetExceeded opcode at done h in
       never true refl (cc)
 
-  elsewhere : {s : RegisterWrite} {o : Outcome} → Way w row u offset width value s o → (why : Refusal) → (givenAt why ≡ at-command → ⊥) → (opcode at done : ℕ) →
-      o .written .answer ≡ NotTaken why opcode at done → (opcode ≡ 0) × (done ≡ 0) × (o .written .unit ≡ withRegisters u (s .registers)) × (o .row ≡ row)
-  elsewhere (checked why c) why′ other opcode at done h = ((cc), (cc), refl, refl)
-  elsewhere (no-base sound) why′ other opcode at done h = ((cc), (cc), refl, refl)
-  elsewhere (no-writer sound cwriter) why′ other opcode at done h = ((cc), (cc), refl, refl)
-  elsewhere (quiet s g) why′ other opcode at done h = never true refl (cc)
-  elsewhere (based s c k z) why′ other opcode at done h = never true refl (cc)
-  elsewhere (off s g out) why′ other opcode at done h = never true refl (cc)
-  elsewhere (over s g on more) why′ other opcode at done h = ((cc), (cc), refl, refl)
-  elsewhere (ran s g on within) why′ other opcode at done h = absurd (other (stop-kind w row u offset width value s g on within why′ opcode at done h))
+  -- a refusal that is given at another place than the budget and the commands
+  before-all : {s : RegisterWrite} {o : Outcome} → Way w row u offset width value s o → (why : Refusal) → givenAt why ≡ at-entry →
+      IfRefused (o .written) why (λ opcode at done. o .written ≡ record { unit = u; answer = NotTaken why 0 0 0 })
+  before-all (checked why c) why′ place opcode at done h = let same : why ≡ why′ = cc in rw same
+  before-all (no-base sound) why′ place opcode at done h = let same : BaseZero ≡ why′ = cc in rw same
+  before-all (no-writer sound cwriter) why′ place opcode at done h =
+      let same : WriterRefused ≡ why′ = cc in
+      let two : at-cwriter ≡ at-entry = ap givenAt same ∙ place in
+      never true refl (cc)
+  before-all (quiet s g) why′ place opcode at done h = never true refl (cc)
+  before-all (based s c k z) why′ place opcode at done h = never true refl (cc)
+  before-all (off s g out) why′ place opcode at done h = never true refl (cc)
+  before-all (over s g on more) why′ place opcode at done h =
+      let same : BudgetExceeded ≡ why′ = cc in
+      let two : at-budget ≡ at-entry = ap givenAt same ∙ place in
+      never true refl (cc)
+  before-all (ran s g on within) why′ place opcode at done h =
+      let two : at-command ≡ at-entry = sym (stop-kind w row u offset width value s g on within why′ opcode at done h) ∙ place in
+      never true refl (cc)
+
+  writer : {s : RegisterWrite} {o : Outcome} → Way w row u offset width value s o → IfRefused (o .written) WriterRefused (λ opcode at done.
+      (registerAt offset ≡ Cwriter) × (o .written ≡ record { unit = u; answer = NotTaken WriterRefused 0 (writerOf u offset width value) 0 }))
+  writer (checked why c) opcode at done h =
+      let same : why ≡ WriterRefused = cc in
+      let place : at-cwriter ≡ at-entry = rw same at (subst (Only Entries) c (write-only u (length row) offset width)) in
+      never true refl (cc)
+  writer (no-base sound) opcode at done h = never true refl (cc)
+  writer (no-writer sound cwriter) opcode at done h = (cwriter, refl)
+  writer (quiet s g) opcode at done h = never true refl (cc)
+  writer (based s c k z) opcode at done h = never true refl (cc)
+  writer (off s g out) opcode at done h = never true refl (cc)
+  writer (over s g on more) opcode at done h = never true refl (cc)
+  writer (ran s g on within) opcode at done h =
+      let place : at-cwriter ≡ at-command = stop-kind w row u offset width value s g on within WriterRefused opcode at done h in
+      never true refl (cc)
+
+  never-11 : {s : RegisterWrite} {o : Outcome} → Way w row u offset width value s o → IfRefused (o .written) LineDoesNotFit (λ opcode at done. ⊥)
+  never-11 (checked why c) opcode at done h =
+      let same : why ≡ LineDoesNotFit = cc in
+      let place : at-output ≡ at-entry = rw same at (subst (Only Entries) c (write-only u (length row) offset width)) in
+      never true refl (cc)
+  never-11 (no-base sound) opcode at done h = never true refl (cc)
+  never-11 (no-writer sound cwriter) opcode at done h = never true refl (cc)
+  never-11 (quiet s g) opcode at done h = never true refl (cc)
+  never-11 (based s c k z) opcode at done h = never true refl (cc)
+  never-11 (off s g out) opcode at done h = never true refl (cc)
+  never-11 (over s g on more) opcode at done h = never true refl (cc)
+  never-11 (ran s g on within) opcode at done h =
+      let place : at-output ≡ at-command = stop-kind w row u offset width value s g on within LineDoesNotFit opcode at done h in
+      never true refl (cc)
+
+  -- a refusal that is given at a command
+  at-a-command : {s : RegisterWrite} {o : Outcome} → Way w row u offset width value s o → (why : Refusal) → givenAt why ≡ at-command →
+      IfRefused (o .written) why (λ opcode at done. StopsAt w s (o .written) why opcode at)
+  at-a-command (checked why c) why′ place opcode at done h =
+      let same : why ≡ why′ = cc in
+      let two : at-entry ≡ at-command = sym (subst (Only Entries) c (write-only u (length row) offset width)) ∙ (ap givenAt same ∙ place) in
+      never true refl (cc)
+  at-a-command (no-base sound) why′ place opcode at done h =
+      let same : BaseZero ≡ why′ = cc in
+      let two : at-entry ≡ at-command = ap givenAt same ∙ place in
+      never true refl (cc)
+  at-a-command (no-writer sound cwriter) why′ place opcode at done h =
+      let same : WriterRefused ≡ why′ = cc in
+      let two : at-cwriter ≡ at-command = ap givenAt same ∙ place in
+      never true refl (cc)
+  at-a-command (quiet s g) why′ place opcode at done h = never true refl (cc)
+  at-a-command (based s c k z) why′ place opcode at done h = never true refl (cc)
+  at-a-command (off s g out) why′ place opcode at done h = never true refl (cc)
+  at-a-command (over s g on more) why′ place opcode at done h =
+      let same : BudgetExceeded ≡ why′ = cc in
+      let two : at-budget ≡ at-command = ap givenAt same ∙ place in
+      never true refl (cc)
+  at-a-command (ran s g on within) why′ place opcode at done h = stops w row u offset width value s g on within why′ opcode at done h
 
   none-waits : {s : RegisterWrite} {o : Outcome} → Way w row u offset width value s o → (done actions : ℕ) → o .written .answer ≡ Taken done actions →
       s .runs ≡ true → s .registers .enabled ≡ true → o .written .unit .registers .creadr ≡ s .registers .cwriter
@@ -74,23 +139,18 @@ module _ (w : Window) (row : List ItsAction) (u : ItsState) (offset width value 
   none-waits (over s g _ _) done actions h runs on = never true refl (cc)
   none-waits (ran s g on within) done actions h runs _ = none-left w row u offset width value s g on within done actions h
 
-  never-1 : {s : RegisterWrite} {o : Outcome} → Way w row u offset width value s o → soundUnit u ≡ true → (opcode at done : ℕ) →
-      o .written .answer ≡ NotTaken Unsound opcode at done → ⊥
-  never-1 (checked why c) sound opcode at done h = subst (Only NotOne) c (sound-only u (length row) offset width sound) (cc)
-  never-1 (no-base _) sound opcode at done h = never true refl (cc)
-  never-1 (no-writer _ cwriter) sound opcode at done h = never true refl (cc)
-  never-1 (quiet s g) sound opcode at done h = never true refl (cc)
-  never-1 (based s c k z) sound opcode at done h = never true refl (cc)
-  never-1 (off s g out) sound opcode at done h = never true refl (cc)
-  never-1 (over s g on more) sound opcode at done h = never true refl (cc)
-  never-1 (ran s g on within) sound opcode at done h =
-      let place : at-entry ≡ at-command = stop-kind w row u offset width value s g on within Unsound opcode at done h in
-      never true refl (cc)
+  kept-by-way : {s : RegisterWrite} {o : Outcome} → Way w row u offset width value s o → RefusalKept w u offset width value s (o .written)
+  kept-by-way y =
+      record {
+        before-all = before-all y;
+        writer = writer y;
+        too-many = too-many y;
+        only-then = only-then y;
+        at-a-command = at-a-command y;
+        never-11 = never-11 y;
+        taken = none-waits y;
+      }
 
-  -- every refusal that is given at a command stops at it
-  abbrev pub StopsThere : RegisterWrite → Written → List ItsAction → Type 0
-  StopsThere s r left =
-      (why : Refusal) → givenAt why ≡ at-command → (opcode at done : ℕ) → r .answer ≡ NotTaken why opcode at done → StopsAt w row u r left opcode at done (s .registers) why
-
-  pub kept-by-way : {s : RegisterWrite} {o : Outcome} → Way w row u offset width value s o → StopsThere s (o .written) (o .row) → RefusalKept w row u s (o .written) (o .row)
-  kept-by-way y stop = record { too-many = too-many y; only-then = only-then y; at-a-command = stop; elsewhere = elsewhere y; taken = none-waits y; never-1 = never-1 y }
+  -- THE THEOREM.
+  pub refusal-kept : (r : Written) (left : List ItsAction) → Writes w row u offset width value r left → RefusalKept w u offset width value (stores row u offset width value) r
+  refusal-kept r left e = rw (e .answer) (kept-by-way (way w row u offset width value))

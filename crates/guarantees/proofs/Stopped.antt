@@ -1,6 +1,6 @@
 -- What a run of the waiting commands leaves, from the unit with the value stored: where it stopped, and what it handed over.
 -- Assumes nothing.
-use Prim.Native.Nat.{ℕ, _≤_}
+use Prim.Native.Nat.{ℕ, _-_, _≤_}
 use native.Mathlib.Omega.{arith}
 use mathlib.Core.Path.{_≡_, refl, sym, ap, _∙_}
 use mathlib.Core.Bool.{true}
@@ -14,20 +14,19 @@ use Rattle.model.specs.declared.Refusal.{Refusal}
 use Rattle.model.specs.declared.WriteAnswer.the-variants.{Taken, NotTaken}
 use Rattle.model.specs.Refusal.{writeNumbers}
 use Rattle.model.specs.With.{withRegisters}
-use Rattle.model.specs.Config.{soundConfig}
 use Rattle.model.specs.Queue.{Window, waiting, Stop, Ran, run}
 use Rattle.model.specs.Writing.{going}
 use Rattle.model.specs.Entry.{answerOf, afterRun}
 use Rattle.model.specs.Passed.{ringOffset, commandsPassed}
-use Rattle.model.proofs.Cases.{never, both}
+use Rattle.model.proofs.Cases.{never}
 use Rattle.model.proofs.Ring.{reader-below}
-use Rattle.model.proofs.Waiting.{waiting-all, reader-sound}
-use Rattle.model.proofs.Turns.{offset-same, passed-same}
+use Rattle.model.proofs.Waiting.{waiting-all}
+use Rattle.model.proofs.Turns.{passed-same}
 use Rattle.model.proofs.Runs.{RunKeeps, run-keeps}
 use Rattle.model.proofs.Answers.{answerFor, done-of, stop-of, taken-of}
 use Rattle.model.proofs.Ways.{Stored}
-use Rattle.guarantees.specs.Refusals.{at-command, givenAt, StopsAt}
-use Rattle.guarantees.specs.Kept.{CommandsKept}
+use Rattle.guarantees.specs.Refusals.{at-command, givenAt}
+use Rattle.guarantees.specs.Kept.{CommandsKept, StopsAt}
 use Rattle.guarantees.proofs.Reasons.{staying}
 use Rattle.guarantees.proofs.Counted.{as-many, no-more, fits}
 use Rattle.guarantees.proofs.Remaining.{waiting-after}
@@ -54,23 +53,16 @@ module _ (w : Window) (row : List ItsAction) (u : ItsState) (offset width value 
     pub stop-kind : givenAt why ≡ at-command
     stop-kind = staying (q .unit) w why opcode (keeps .refused _ (stop-of q (q .stopped) why opcode at done h .0)) .0
 
-    pub stops : StopsAt w row u (afterRun q row .written) (afterRun q row .row) opcode at done s why
+    pub stops : StopsAt w (going s) (afterRun q row .written) why opcode at
     stops =
         let (stop, place) = stop-of q (q .stopped) why opcode at done h in
-        let number : done ≡ q .done = sym (ap (λ a. writeNumbers a .done) h) ∙ done-of q (q .stopped) in
+        let remain : waiting (q .unit .registers) ≡ waiting s - q .done = rw (keeps .registers) (waiting-after s (g .ring) (q .done) (keeps .at-most)) in
         record {
-          handed = q .actions;
-          earlier = rw (number, passed (q .done)) (keeps .carried);
-          row-left = refl;
-          offset = place;
-          reader = rw number (ap (λ r. r .creadr) (keeps .registers) ∙ offset-same w s (u .registers) (g .base) (g .reader) (q .done));
-          waited = rw number (keeps .fewer _ stop);
-          waits = rw (number, keeps .registers) (waiting-after s (g .ring) (q .done) (keeps .at-most));
-          within = rw (keeps .config) within;
-          sound = rw (keeps .config, keeps .registers) (both (soundConfig (u .config)) _ (g .sound) (reader-sound s (g .ring) (q .done) (keeps .at-most)));
-          enabled = rw (keeps .registers) on;
+          lets-run = refl;
+          enabled = on;
+          waits = omega (arith, remain, keeps .fewer _ stop);
           fails = keeps .refused _ stop;
-          opcode-read = staying (q .unit) w why opcode (keeps .refused _ stop) .1;
+          offset = place;
         }
 
   -- it did not stop: no command is left
@@ -87,7 +79,6 @@ module _ (w : Window) (row : List ItsAction) (u : ItsState) (offset width value 
         shown = rw (number, passed (q .done)) (keeps .shown);
         handed = q .actions;
         carried = rw (number, passed (q .done)) (keeps .carried);
-        as-many = rw (number, passed (q .done)) count;
         in-row = refl;
         room = fits (q .actions) row (omega (arith, count, no-more (commandsPassed w s (q .done)), keeps .shown, keeps .at-most, within, g .room));
         taken = λ done actions h. count-of q (q .stopped) done actions h;

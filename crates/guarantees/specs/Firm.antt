@@ -81,7 +81,7 @@ pub record OfEveryEntry (P : (A : Type 0) → (A → Type 0) → Type 0) : Type 
   pub «its_configure» : (limit budget frame : ℕ) (ps : List ℕ) → P CallAnswerUnit (λ o. CallConfigures limit budget frame ps (o .unit) (o .number) (o .told))
   -- `its_read` returns a number and tells five; the unit is lent to be read only
   pub «its_read» : (u : ItsState) (offset width : ℕ) → P CallAnswer (λ o. CallReads u offset width (o .number) (o .told))
-  -- `its_write` returns a number, tells five, and leaves a unit and a row; s are the numbers that are lent to it
-  pub «its_write» : (w : Window) (row s : List ℕ) (offset width value : ℕ) → P CallAnswerRow (CallWritesAll w row (unitIn s) offset width value)
+  -- `its_write` returns a number, tells five, and leaves a unit and a row; lent are the numbers that are lent to it
+  pub «its_write» : (w : Window) (row lent : List ℕ) (offset width value : ℕ) → P CallAnswerRow (CallWritesAll w row (unitIn lent) offset width value)
   -- `its_translate` returns a number and tells five; the unit is lent to be read only
   pub «its_translate» : (u : ItsState) (device event : ℕ) → P CallAnswer (λ o. CallTranslates u device event (o .number) (o .told))

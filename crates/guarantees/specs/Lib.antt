@@ -2,6 +2,7 @@ pub mod Firm
 pub mod Actions
 pub mod Refusals
 pub mod Kept
+pub mod Follows
 pub mod MappingsInForce
 pub mod CallsInForce
 pub mod Retries

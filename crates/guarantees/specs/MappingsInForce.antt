@@ -17,11 +17,9 @@ use Rattle.model.specs.declared.ItsState.{ItsState}
 use Rattle.model.specs.declared.ItsAction.{ItsAction}
 use Rattle.model.specs.declared.Command.{Command}
 use Rattle.model.specs.declared.Refusal.{Refusal}
-use Rattle.model.specs.declared.Refusal.the-variants.{Unsound, ResourceNotFound}
+use Rattle.model.specs.declared.Refusal.the-variants.{ResourceNotFound}
 use Rattle.model.specs.declared.Verdict.the-variants.{Accepted}
 use Rattle.model.specs.declared.ReadAnswer.{ReadAnswer}
-use Rattle.model.specs.declared.ReadAnswer.the-variants.{NoValue}
-use Rattle.model.specs.declared.WriteAnswer.the-variants.{NotTaken}
 use Rattle.model.specs.declared.TranslateAnswer.{TranslateAnswer}
 use Rattle.model.specs.declared.TranslateAnswer.the-variants.{Delivered, NotDelivered}
 use Rattle.model.specs.declared.Configured.{Configured}
@@ -35,7 +33,8 @@ use Rattle.model.specs.Paragraph.{InForce}
 use Rattle.model.specs.Promise.{SentTo, Backed}
 use Rattle.its.specs.Contracts.{Configures, Reads, Writes, Translates}
 use Rattle.guarantees.specs.Actions.{passedBy}
-use Rattle.guarantees.specs.Kept.{RingKept, CommandsKept, RefusalKept}
+use Rattle.guarantees.specs.Refusals.{NeverOne}
+use Rattle.guarantees.specs.Kept.{CommandsKept}
 
 -- `Led k u h`: from a unit configured with k, some calls, refused ones included, led to the unit u, and the commands carried out are h, the last
 -- one first. Every answer is one that meets the entry's contract.
@@ -76,11 +75,7 @@ pub record MappingsInForce (k : ItsConfig) (u : ItsState) (h : List Command) : T
       (why : Refusal) → r ≡ NotDelivered why → translateNumbers r ≡ record { refusal = 8; lpi = 0; processor = 0 }
   -- of each pair in force the LPI is in range, device and collection are mapped, and the processor is listed
   pub backed : (d : ItsDeviceId) (e : EventId) (l : LpiId) (c : CollectionId) → InForce h d e l c → Backed k h d l c
-  -- 1 is never answered: by no read, no translation and no write
-  pub reads : (offset width : ℕ) (r : ReadAnswer) → Reads u offset width r → r ≡ NoValue Unsound → ⊥
-  pub messages : (d : ItsDeviceId) (e : EventId) (r : TranslateAnswer) → Translates u d e r → r ≡ NotDelivered Unsound → ⊥
-  pub writes : OfWritesTo u (λ w row offset width value r left. (opcode at done : ℕ) → r .answer ≡ NotTaken Unsound opcode at done → ⊥)
-  -- every write keeps what is said of the ring, of the commands passed and of its refusal (Kept)
-  pub ring : OfWritesTo u (λ w row offset width value r left. RingKept u (stores row u offset width value) r)
+  -- 1 is never answered: to no read, no translation and no write (Refusals)
+  pub never-1 : NeverOne u
+  -- every command that a write passes lay whole in the window, is of one of the kinds and was accepted by the unit that met it (Kept)
   pub commands : OfWritesTo u (λ w row offset width value r left. CommandsKept w row u (stores row u offset width value) r left)
-  pub refusals : OfWritesTo u (λ w row offset width value r left. RefusalKept w row u (stores row u offset width value) r left)

@@ -50,10 +50,8 @@ pub record TriesAgain (w : Window) (row : List ItsAction) (u : ItsState) (s : Re
   -- where the unit accepts it, it is the first command carried out
   pub accepts : (x : Command) → turn w u ≡ passes x → BeginsWith w u s r x
 
--- After a write that was refused because of the command at CREADR, and answered v, with the reason why, the opcode and the offset:
+-- After a write that was refused because of the command at CREADR, and answered v, with the reason why, the opcode and the offset, which is CREADR (Kept):
 pub record TriedLater (w : Window) (v : Written) (why : Refusal) (opcode offset : ℕ) : Type 0 where
-  -- CREADR stands at the offset answered
-  pub reader : v .unit .registers .creadr ≡ offset
   -- a later write that tries the queue, with any window, begins there
   pub again : (w′ : Window) (row : List ItsAction) (offset′ width value : ℕ) (r : Written) (left : List ItsAction) → Writes w′ row (v .unit) offset′ width value r left →
       Tries (v .unit) (stores row (v .unit) offset′ width value) → TriesAgain w′ row (v .unit) (stores row (v .unit) offset′ width value) r left

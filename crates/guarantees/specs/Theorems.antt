@@ -5,6 +5,7 @@ use Prim.Native.Nat.{ℕ}
 use mathlib.Core.Path.{_≡_}
 use mathlib.Core.Bool.{true, false}
 use mathlib.Core.List.{List, _++_, map}
+use mathlib.Core.Logic.{_⊎_}
 use lib.ListN.{take, drop}
 use Rattle.model.specs.declared.ItsDeviceId.{ItsDeviceId}
 use Rattle.model.specs.declared.EventId.{EventId}
@@ -13,7 +14,7 @@ use Rattle.model.specs.declared.ItsState.{ItsState}
 use Rattle.model.specs.declared.ItsAction.{ItsAction}
 use Rattle.model.specs.declared.Command.{Command}
 use Rattle.model.specs.declared.Refusal.{Refusal}
-use Rattle.model.specs.declared.Refusal.the-variants.{Unsound}
+use Rattle.model.specs.declared.Refusal.the-variants.{Unsound, WriterRefused}
 use Rattle.model.specs.declared.Verdict.the-variants.{Refused}
 use Rattle.model.specs.declared.ReadAnswer.{ReadAnswer}
 use Rattle.model.specs.declared.WriteAnswer.{WriteAnswer}
@@ -21,6 +22,7 @@ use Rattle.model.specs.declared.WriteAnswer.the-variants.{NotTaken}
 use Rattle.model.specs.declared.TranslateAnswer.{TranslateAnswer}
 use Rattle.model.specs.declared.Configured.{Configured}
 use Rattle.model.specs.declared.Written.{Written}
+use Rattle.model.specs.Refusal.{numberOf}
 use Rattle.model.specs.Config.{soundUnit}
 use Rattle.model.specs.Queue.{Window}
 use Rattle.model.specs.Entry.{stores}
@@ -30,8 +32,9 @@ use Rattle.its.specs.Contracts.{NoUnit, Configures, Reads, Writes, WritesLent, 
 use Rattle.host.specs.Calls.{Tells, numbersOfWrite, actionIn, CallWrites}
 use Rattle.guarantees.specs.Firm.{Answered, Firm, OfEveryEntry}
 use Rattle.guarantees.specs.Actions.{ActionsOf, ActionsGiven, CallActionsGiven}
-use Rattle.guarantees.specs.Refusals.{at-command, givenAt, RefusalLeaves, ReadLeaves, TranslateLeaves, AnswersOne}
+use Rattle.guarantees.specs.Refusals.{at-command, givenAt, ReadLeaves, TranslateLeaves, AnswersOne, NeverOne}
 use Rattle.guarantees.specs.Kept.{RingKept, CommandsKept, RefusalKept}
+use Rattle.guarantees.specs.Follows.{RingFollows, CommandsFollow, RefusalFollows}
 use Rattle.guarantees.specs.MappingsInForce.{Led, OfWritesTo, MappingsInForce}
 use Rattle.guarantees.specs.CallsInForce.{LedByCalls, OfCallsTo, CallsInForce}
 use Rattle.guarantees.specs.Retries.{Tries, TriesAgain, TriedLater}
@@ -70,21 +73,30 @@ pub record Theorems : Type 0 where
   pub call-writes : (w : Window) (row : List ℕ) (u : ItsState) (offset width value : ℕ) (left : ItsState) (after : List ℕ) (r : ℕ) (told : List ℕ) →
       CallWrites w row u offset width value left after r told →
       (a : WriteAnswer) × (Writes w (map actionIn row) u offset width value (record { unit = left; answer = a }) (map actionIn after) × Tells (numbersOfWrite a) r told)
-  -- WHAT A WRITE KEEPS (Kept). The ring, on every sound unit, also one that was built by hand: done is CREADR's advance
-  pub ring-kept : OfEveryWrite (λ w row u offset width value r left. soundUnit u ≡ true → RingKept u (stores row u offset width value) r)
+  -- WHAT A WRITE KEEPS (Kept). The ring, on every sound unit, also one that was built by hand
+  pub ring-kept : OfEveryWrite (λ w row u offset width value r left. soundUnit u ≡ true → RingKept (stores row u offset width value) r)
   -- the commands, on every unit: those carried out are those that the window shows, and the row holds their actions
   pub commands-kept : OfEveryWrite (λ w row u offset width value r left. CommandsKept w row u (stores row u offset width value) r left)
   -- refusal and answer, on every unit
-  pub refusal-kept : OfEveryWrite (λ w row u offset width value r left. RefusalKept w row u (stores row u offset width value) r left)
-  -- WHAT A REFUSED WRITE LEAVES, number by number (Refusals)
-  pub refusal-leaves : OfEveryWrite RefusalLeaves
+  pub refusal-kept : OfEveryWrite (λ w row u offset width value r left. RefusalKept w u offset width value (stores row u offset width value) r)
+  -- WHAT FOLLOWS FROM THE THREE (Follows). Done is CREADR's advance, on every sound unit
+  pub ring-follows : OfEveryWrite (λ w row u offset width value r left. soundUnit u ≡ true → RingFollows u (stores row u offset width value) r)
+  -- of the commands, on every unit
+  pub commands-follow : OfEveryWrite (λ w row u offset width value r left.
+      (kept : CommandsKept w row u (stores row u offset width value) r left) → CommandsFollow w row u (stores row u offset width value) r left kept)
+  -- of a refusal, on every unit
+  pub refusal-follows : OfEveryWrite (λ w row u offset width value r left. RefusalFollows w row u (stores row u offset width value) r left)
+  -- 7 is CWRITER's or a command's
+  pub seven : (why : Refusal) → numberOf why ≡ 7 → (why ≡ WriterRefused) ⊎ (givenAt why ≡ at-command)
   -- what a refused read leaves (Refusals)
   pub read-leaves : (u : ItsState) (offset width : ℕ) (r : ReadAnswer) → Reads u offset width r → ReadLeaves r
   -- what a refused translation leaves (Refusals)
   pub translate-leaves : (u : ItsState) (d : ItsDeviceId) (e : EventId) (r : TranslateAnswer) → Translates u d e r → TranslateLeaves r
   -- 1 TO EVERYTHING (Refusals): an unsound unit
   pub unsound-answers-1 : (u : ItsState) → soundUnit u ≡ false → AnswersOne u
-  -- the unit that stands where none was configured
+  -- a sound unit never answers 1
+  pub sound-never-1 : (u : ItsState) → soundUnit u ≡ true → NeverOne u
+  -- 1 to everything too: the unit that stands where none was configured
   pub no-unit-answers-1 : (u : ItsState) → NoUnit u → AnswersOne u
   -- and the one that a refused configuration gives; its refusal is 1
   pub refused-configuration : (k : ItsConfig) (c : Configured) → Configures k c → (why : Refusal) → c .verdict ≡ Refused why → (why ≡ Unsound) × AnswersOne (c .unit)

@@ -4,7 +4,7 @@
 use Prim.Native.Nat.{ℕ}
 use native.Mathlib.Omega.{arith}
 use mathlib.Core.Path.{_≡_, refl, sym, subst, _∙_}
-use mathlib.Core.Bool.{Bool, true, not}
+use mathlib.Core.Bool.{Bool, true}
 use mathlib.Core.List.{List, [], _++_}
 use mathlib.Core.Option.{Option, none, some}
 use mathlib.Core.Logic.{_↔_}
@@ -19,32 +19,27 @@ use Rattle.model.specs.declared.ItsAction.{ItsAction}
 use Rattle.model.specs.declared.Command.{Command}
 use Rattle.model.specs.declared.Delivery.{Delivery}
 use Rattle.model.specs.declared.Refusal.{Refusal}
-use Rattle.model.specs.declared.Refusal.the-variants.{Unsound, InvalidAccess, Identification, ResourceNotFound}
+use Rattle.model.specs.declared.Refusal.the-variants.{Unsound, ResourceNotFound}
 use Rattle.model.specs.declared.Verdict.{Verdict}
 use Rattle.model.specs.declared.Verdict.the-variants.{Accepted, Refused}
-use Rattle.model.specs.declared.ReadAnswer.the-variants.{Value, NoValue}
 use Rattle.model.specs.declared.RegisterWrite.{RegisterWrite}
 use Rattle.model.specs.declared.TranslateAnswer.{TranslateAnswer}
 use Rattle.model.specs.declared.TranslateAnswer.the-variants.{Delivered, NotDelivered}
 use Rattle.model.specs.Choose.{_or_then_, ifFound}
-use Rattle.model.specs.Arm.{isIdentification}
 use Rattle.model.specs.Keys.{delivery}
 use Rattle.model.specs.Refusal.{writeNumbers}
 use Rattle.model.specs.With.{withRegisters}
 use Rattle.model.specs.Config.{soundConfig, soundRing, soundUnit, freshUnit}
 use Rattle.model.specs.Step.{deliveryIn}
 use Rattle.model.specs.Queue.{Window}
-use Rattle.model.specs.Register.{registerAt, takesWidth}
-use Rattle.model.specs.Access.{inFrame, checkAccess, checkRead, ifAccepted}
-use Rattle.model.specs.Entry.{configure, readFrom, read, translate, Outcome, stores, write}
+use Rattle.model.specs.Entry.{configure, translate, Outcome, stores, write}
 use Rattle.model.specs.Passed.{commandsPassed, CarriedOut}
 use Rattle.model.specs.Paragraph.{InForce}
-use Rattle.model.specs.Promise.{SentTo, Promise}
+use Rattle.model.specs.Promise.{SentTo}
 use Rattle.model.proofs.Cases.{cases, never, both}
 use Rattle.model.proofs.Agreement.{Agrees, agrees-fresh}
 use Rattle.model.proofs.Backing.{Sound, sound-fresh}
-use Rattle.model.proofs.Promised.{promise}
-use Rattle.model.proofs.Stays.{apart, check-apart}
+use Rattle.model.proofs.Promised.{Promise, promise}
 use Rattle.model.proofs.Turns.{passed-same}
 use Rattle.model.proofs.Carried.{agrees-registers, lengthened}
 use Rattle.model.proofs.Ways.{way, AsRun, as-run, ranBy, run-kept, stays-sound}
@@ -117,18 +112,6 @@ no-other : (o : Option Delivery) (r : Refusal) → answerTo o ≡ NotDelivered r
 no-other none r h = cc
 no-other (some b) r h = never true refl (cc)
 
--- a read answers what its check does
-access-apart : (k : ItsConfig) (offset width : ℕ) → apart (checkAccess k offset width) ≡ true
-unfolding checkAccess
-access-apart k offset width =
-    check-apart (inFrame k offset width) InvalidAccess _ refl
-    (check-apart (not (isIdentification offset)) Identification _ refl
-    (check-apart (takesWidth (registerAt offset) width) InvalidAccess _ refl refl))
-
-read-not-1 : (v : Verdict) (x : ℕ) → apart v ≡ true → ifAccepted v (Value x) NoValue ≡ NoValue Unsound → ⊥
-read-not-1 Accepted x a h = never true refl (cc)
-read-not-1 (Refused r) x a h = let same : r ≡ Unsound = cc in never (apart (Refused r)) a (rw same)
-
 -- WHAT IS DEMANDED, of such a unit.
 module _ {k : ItsConfig} {u : ItsState} {h : List Command} (m : Held k u h) where
   translation : (d : ItsDeviceId) (e : EventId) → translate u d e ≡ answerTo (deliveryIn u d e)
@@ -155,8 +138,3 @@ module _ {k : ItsConfig} {u : ItsState} {h : List Command} (m : Held k u h) wher
   -- and with nothing else but 8
   pub only-8 : (d : ItsDeviceId) (e : EventId) (r : Refusal) → translate u d e ≡ NotDelivered r → r ≡ ResourceNotFound
   only-8 d e r q = no-other (deliveryIn u d e) r (sym (translation d e) ∙ q)
-
-  -- no read is answered with 1
-  pub no-read-1 : (offset width : ℕ) → read u offset width ≡ NoValue Unsound → ⊥
-  unfolding readFrom checkRead
-  no-read-1 offset width q = read-not-1 (checkRead (u .config) (u .registers) offset width) _ (rw (m .sound) (access-apart (u .config) offset width)) q

@@ -1,9 +1,11 @@
--- What specs/Promise.antt says holds of any unit that agrees with a history, and of that history.
+-- Demand 3 over the model's own definitions, of any unit that agrees with a history, and of that history: a step on the way to what a reader finds in
+-- `guarantees: MappingsInForce`.
 -- Assumes nothing.
 use mathlib.Core.Path.{_≡_, refl, sym, ap, _∙_}
 use mathlib.Core.Bool.{true}
 use mathlib.Core.List.{List}
 use mathlib.Core.Option.{Option, none, some}
+use mathlib.Core.Logic.{_↔_}
 use lib.Dec.{leb}
 use borrow.Author.Tests.{leb-true}
 use Rattle.model.specs.declared.ItsDeviceId.{ItsDeviceId}
@@ -13,6 +15,7 @@ use Rattle.model.specs.declared.LpiId.{LpiId}
 use Rattle.model.specs.declared.GicVcpuId.{GicVcpuId}
 use Rattle.model.specs.declared.ItsCollection.{ItsCollection}
 use Rattle.model.specs.declared.Translation.{Translation}
+use Rattle.model.specs.declared.ItsConfig.{ItsConfig}
 use Rattle.model.specs.declared.ItsState.{ItsState}
 use Rattle.model.specs.declared.Delivery.{Delivery}
 use Rattle.model.specs.declared.Command.{Command}
@@ -22,13 +25,21 @@ use Rattle.model.specs.Keys.{delivery}
 use Rattle.model.specs.Step.{collectionOf, translationOf, deliveryIn, lpiInRange}
 use Rattle.model.specs.History.{deviceNow, collectionNow, processorNow, PairEntry, anEntry, pairNow, deliveryOf}
 use Rattle.model.specs.Paragraph.{InForce}
-use Rattle.model.specs.Promise.{SentTo, Promise}
+use Rattle.model.specs.Promise.{SentTo, Backed}
 use Rattle.model.proofs.Cases.{never, and-left, and-right, found}
 use Rattle.model.proofs.Effects.{targetIn, entryOf, entryIn}
 use Rattle.model.proofs.Agreement.{Agrees}
 use Rattle.model.proofs.Backing.{Sound}
 use Rattle.model.proofs.Mapped.{device-mapped, collection-mapped, processor-of, mapped-processor}
 use Rattle.model.proofs.Paragraph.{in-force}
+
+-- what is promised of the unit u, configured with k, and of the history h
+pub record Promise (k : ItsConfig) (u : ItsState) (h : List Command) : Type 0 where
+  -- a pair in force translates to what the commands give, and whatever translates is in force
+  pub sent : (d : ItsDeviceId) (e : EventId) (l : LpiId) (p : GicVcpuId) → SentTo h d e l p ↔ (deliveryIn u d e ≡ some (delivery l p))
+  -- a pair that is not in force does not translate, and whatever does not translate is not in force
+  pub nowhere : (d : ItsDeviceId) (e : EventId) → ((l : LpiId) (c : CollectionId) → InForce h d e l c → ⊥) ↔ (deliveryIn u d e ≡ none)
+  pub backed : (d : ItsDeviceId) (e : EventId) (l : LpiId) (c : CollectionId) → InForce h d e l c → Backed k h d l c
 
 -- a message's way in the unit, in terms of what the unit says of pairs and of collections
 module _ (u : ItsState) where
