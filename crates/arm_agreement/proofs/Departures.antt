@@ -14,7 +14,7 @@ use Rattle.model.specs.declared.TranslateAnswer.the-variants.{Delivered}
 use Rattle.model.specs.Choose.{isFound}
 use Rattle.model.specs.Arm.{_of_, CTLR·Quiescent, CREADR·Stalled, GITS-CTLR, GITS-CBASER, GITS-CWRITER}
 use Rattle.model.specs.Keys.{delivery}
-use Rattle.model.specs.With.{withRegisters, theRegisters}
+use Rattle.model.specs.With.{withRegisters, withEnabled, withRing}
 use Rattle.model.specs.Config.{freshUnit}
 use Rattle.model.specs.Decode.{decode}
 use Rattle.model.specs.Entry.{translate, write}
@@ -131,7 +131,7 @@ S01-departs = (refl, refl)
 
 -- The registers. R13, R39: the unit is enabled and has stopped; Quiescent reads 1, and Stalled 0
 abbrev stuck : ItsState
-stuck = withRegisters (unit []) (theRegisters true 0x8000000040000000 0 32 [])
+stuck = withRegisters (unit []) (withRing (withEnabled (unit [] .registers) true) 0x8000000040000000 0 32)
 
 pub R13-R39-depart : (stopped stuck ≡ true) × (CREADR·Stalled of held stuck CREADR ≡ 0) × (CTLR·Quiescent of held stuck CTLR ≡ 1)
 R13-R39-depart = (refl, refl, refl)

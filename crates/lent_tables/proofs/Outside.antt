@@ -21,6 +21,7 @@ use Rattle.lent_tables.specs.Numbers.{
   FRAME-SIZE,
   PROCESSOR-COUNT,
   PROCESSORS,
+  REGISTERS,
   ENABLED,
   CBASER,
   CREADR,
@@ -82,7 +83,7 @@ unit-is : {k k′ : ItsConfig} {r r′ : ItsRegisters} {ds ds′ : List ItsDevic
 unit-is k r ds cs ts = rw (k, r, ds, cs, ts)
 
 module _ {s t : List ℕ} where
-  config-same : Agree LPI-LIMIT ENABLED s t → configIn t ≡ configIn s
+  config-same : Agree LPI-LIMIT REGISTERS s t → configIn t ≡ configIn s
   unfolding configIn
   config-same h =
       rw (
@@ -96,7 +97,7 @@ module _ {s t : List ℕ} where
         h .at (PROCESSORS + 3) (omega arith) (omega arith),
       )
 
-  registers-same : Agree ENABLED DEVICES s t → registersIn t ≡ registersIn s
+  registers-same : Agree REGISTERS DEVICES s t → registersIn t ≡ registersIn s
   unfolding registersIn
   registers-same h =
       rw (
@@ -120,12 +121,12 @@ module _ {s t : List ℕ} where
   translations-same h =
       rows-same PAIR-RECORDS _ _ (λ i l. ap₂ translationIn (h .at (KEYS + i) (omega arith) (omega arith)) (h .at (GOALS + i) (omega arith) (omega arith)))
 
-  pub config-changed : Outside LPI-LIMIT ENABLED s t → {k : ItsConfig} → configIn t ≡ k → unitIn t ≡ withConfig (unitIn s) k
+  pub config-changed : Outside LPI-LIMIT REGISTERS s t → {k : ItsConfig} → configIn t ≡ k → unitIn t ≡ withConfig (unitIn s) k
   config-changed o e =
       unit-is e (registers-same (above o (omega arith))) (devices-same (above o (omega arith))) (collections-same (above o (omega arith)))
       (translations-same (above o (omega arith)))
 
-  pub registers-changed : Outside ENABLED DEVICES s t → {r : ItsRegisters} → registersIn t ≡ r → unitIn t ≡ withRegisters (unitIn s) r
+  pub registers-changed : Outside REGISTERS DEVICES s t → {r : ItsRegisters} → registersIn t ≡ r → unitIn t ≡ withRegisters (unitIn s) r
   registers-changed o e =
       unit-is (config-same (below o (omega arith))) e (devices-same (above o (omega arith))) (collections-same (above o (omega arith)))
       (translations-same (above o (omega arith)))

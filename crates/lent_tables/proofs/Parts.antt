@@ -14,7 +14,7 @@ use Rattle.model.specs.declared.ItsConfig.{ItsConfig}
 use Rattle.model.specs.declared.ItsRegisters.{ItsRegisters}
 use Rattle.model.specs.With.{aConfig, withConfig, withRegisters, withProcessors}
 use Rattle.model.specs.Queue.{pastCommand}
-use Rattle.lent_tables.specs.Numbers.{NUMBERS, LPI-LIMIT, COMMAND-BUDGET, FRAME-SIZE, PROCESSOR-COUNT, PROCESSORS, ENABLED, CBASER, CREADR, CWRITER, BASERS, processorAt, word, rows, configIn, registersIn, unitIn}
+use Rattle.lent_tables.specs.Numbers.{NUMBERS, LPI-LIMIT, COMMAND-BUDGET, FRAME-SIZE, PROCESSOR-COUNT, PROCESSORS, REGISTERS, ENABLED, CBASER, CREADR, CWRITER, BASERS, processorAt, word, rows, configIn, registersIn, unitIn}
 use Rattle.lent_tables.proofs.Rows.{rows-same, rows-list, sets-at}
 use Rattle.lent_tables.proofs.Outside.{Outside, outside-set, outside-sets, config-changed, registers-changed}
 
@@ -43,15 +43,15 @@ eight x r (suc (suc (suc (suc (suc (suc (suc (suc i)))))))) h = absurd (omega ar
 
 module _ (s : List ℕ) (long : length s ≡ NUMBERS) (x : ℕ) (r : ItsRegisters) (on : eqb (x % 2) 1 ≡ r .enabled) (all : length (r .basers) ≡ 8) where
   t : List ℕ
-  t = sets s ENABLED (numbersOf x r)
+  t = sets s REGISTERS (numbersOf x r)
 
-  at : (j : ℕ) → j < 12 → word t (ENABLED + j) ≡ getD (numbersOf x r) j 0
+  at : (j : ℕ) → j < 12 → word t (REGISTERS + j) ≡ getD (numbersOf x r) j 0
   unfolding t
-  at j h = sets-at s ENABLED (numbersOf x r) j (omega arith) (omega arith)
+  at j h = sets-at s REGISTERS (numbersOf x r) j (omega arith) (omega arith)
 
   baser : (i : ℕ) → i < 8 → word t (BASERS + i) ≡ getD (r .basers) i 0
   baser i h =
-      let e : BASERS + i ≡ ENABLED + (4 + i) = omega arith in
+      let e : BASERS + i ≡ REGISTERS + (4 + i) = omega arith in
       ap (word t) e ∙ at (4 + i) (omega arith) ∙ eight x r i h
 
   stored : registersIn t ≡ r
@@ -66,9 +66,9 @@ module _ (s : List ℕ) (long : length s ≡ NUMBERS) (x : ℕ) (r : ItsRegister
         rows-list 8 (λ i. word t (BASERS + i)) (r .basers) 0 all baser,
       )
 
-  pub registers-put : unitIn (sets s ENABLED (numbersOf x r)) ≡ withRegisters (unitIn s) r
+  pub registers-put : unitIn (sets s REGISTERS (numbersOf x r)) ≡ withRegisters (unitIn s) r
   unfolding t
-  registers-put = registers-changed (outside-sets s ENABLED (numbersOf x r) (omega arith) (omega arith)) stored
+  registers-put = registers-changed (outside-sets s REGISTERS (numbersOf x r) (omega arith) (omega arith)) stored
 
 -- CREADR alone.
 module _ (s : List ℕ) (long : length s ≡ NUMBERS) (w : ℕ) (e : w ≡ pastCommand (registersIn s) .creadr) where
@@ -121,7 +121,7 @@ module _ (s : List ℕ) (long : length s ≡ NUMBERS) (ps : List GicVcpuId) (six
   there : (j : ℕ) → j < 4 → word listed (PROCESSORS + j) ≡ getD (a ∷ b ∷ c ∷ d ∷ []) j 0
   there j h = sets-at s PROCESSORS (a ∷ b ∷ c ∷ d ∷ []) j (omega arith) (omega arith)
 
-  firsts : Outside PROCESSORS ENABLED s listed
+  firsts : Outside PROCESSORS (PROCESSORS + 4) s listed
   firsts = outside-sets s PROCESSORS (a ∷ b ∷ c ∷ d ∷ []) (omega arith) (omega arith)
 
   configured : configIn listed ≡ withProcessors (configIn s) ps

@@ -37,9 +37,13 @@ FRAME-SIZE = 2
 abbrev pub PROCESSOR-COUNT : ℕ
 PROCESSOR-COUNT = 3
 
--- the sixteen processors, four to a number, the first lowest; behind them up to ENABLED stands nothing
+-- the sixteen processors, four to a number, the first lowest; behind them up to the registers stands nothing
 abbrev pub PROCESSORS : ℕ
 PROCESSORS = 4
+
+-- here the configuration ends and the registers begin
+abbrev pub REGISTERS : ℕ
+REGISTERS = 20
 
 -- enabled if its lowest bit is set
 abbrev pub ENABLED : ℕ

@@ -12,9 +12,9 @@ use Rattle.model.specs.declared.Command.{Command}
 use Rattle.model.specs.declared.Command.the-variants.{Mapd, Mapc, Mapti, Int}
 use Rattle.model.specs.Arm.{GITS-TYPER, GITS-CBASER, GITS-CWRITER, GITS-BASER}
 use Rattle.model.specs.Refusal.{verdictNumber, readNumbers, writeNumbers, translateNumbers}
-use Rattle.model.specs.Config.{queueSize}
+use Rattle.model.specs.Config.{queueSize, freshRegisters}
 use Rattle.model.specs.Step.{check}
-use Rattle.model.specs.With.{theRegisters, aConfig}
+use Rattle.model.specs.With.{withRing, aConfig}
 use Rattle.model.specs.Queue.{waiting}
 use Rattle.model.specs.Entry.{configure, read, write, translate}
 use Rattle.model.specs.Met.{unitAfter}
@@ -96,7 +96,7 @@ corners =
     ∷ corner 6 (answers (writing (fresh 65535) GITS-CWRITER 32) 7 32)
     ∷ corner 6 (answers (writing (fresh 65535) GITS-CWRITER 0) 0 0)
     -- one page, reader 4064, writer 32: two wait
-    ∷ corner 7 (eqb (waiting (theRegisters true 0x1000 4064 32 [])) 2)
+    ∷ corner 7 (eqb (waiting (withRing freshRegisters 0x1000 4064 32)) 2)
     -- all ones into BASER 0: 0xF9E7FFFFFFFFFFFF
     ∷ corner 8 (reads (writing (fresh 65535) GITS-BASER 0xFFFFFFFFFFFFFFFF .unit) GITS-BASER 8 0xF9E7FFFFFFFFFFFF)
     -- 4 bits: event 15 yes, 16 refused; 32 bits: 0xFFFFFFFF yes
