@@ -14,7 +14,7 @@ use Rattle.model.specs.Step.{effect, accepts, stepped}
 use Rattle.model.proofs.Cases.{cases}
 use Rattle.model.proofs.Effects.{rest-effect}
 use Rattle.arm_agreement.specs.Commands.{ArmCommand}
-use Rattle.arm_agreement.specs.Mappings.{nothing, next}
+use Rattle.arm_agreement.specs.Mappings.{nothing, nextMappings}
 use Rattle.arm_agreement.specs.Seen.{asCommand, takes, unit-after, armOf, Tables, announcedBy}
 use Rattle.arm_agreement.specs.Conditions.{WellMapped, Under}
 use Rattle.arm_agreement.specs.Ring.{arm-run}
@@ -33,7 +33,7 @@ taken u x = by (asCommand x)
     by (some y) = refl
 
 -- ONE COMMAND
-pub step-as-arm : (u : ItsState) (t : Tables) → WellMapped (armOf u) → (x : ArmCommand) → Under u t x → armOf (unit-after u x) ≡ next (announcedBy (u .config) t) (armOf u) x
+pub step-as-arm : (u : ItsState) (t : Tables) → WellMapped (armOf u) → (x : ArmCommand) → Under u t x → armOf (unit-after u x) ≡ nextMappings (announcedBy (u .config) t) (armOf u) x
 step-as-arm u t kept x k =
     rw (taken u x, ← (errors-as-arm u t kept x k))
     (cases (takes u x) (λ h. rw h (effect-as-arm u t x k h)) (λ h. rw h))

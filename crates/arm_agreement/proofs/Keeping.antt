@@ -12,7 +12,7 @@ use Rattle.model.specs.Choose.{whenFound, isFound}
 use Rattle.model.proofs.Cases.{cases, never, and-left, and-right}
 use Rattle.model.proofs.KeyLaws.{eqb-sym}
 use Rattle.arm_agreement.specs.Commands.{ArmCommand, MAPD, MAPC, MAPTI, MAPI, MOVI, INT, CLEAR, DISCARD, INV, INVALL, SYNC, MOVALL}
-use Rattle.arm_agreement.specs.Mappings.{Interrupt, interrupt, Mappings, Announced, with-device, with-collection, with-event, nothing, event-of, event-announced, device-announced, is-LPI, names-event, names-interrupt, no-error, does, next}
+use Rattle.arm_agreement.specs.Mappings.{Interrupt, interrupt, Mappings, Announced, with-device, with-collection, with-event, nothing, event-of, event-announced, device-announced, is-LPI, names-event, names-interrupt, no-error, does, nextMappings}
 use Rattle.arm_agreement.specs.Seen.{armOf, Tables, announcedBy}
 use Rattle.arm_agreement.specs.Conditions.{WellMapped, Under}
 
@@ -105,5 +105,5 @@ module _ (u : ItsState) (t : Tables) (kept : WellMapped (armOf u)) where
   kept-does (SYNC p) k ok = kept
   kept-does (MOVALL p q) k ok = kept
 
-  pub kept-next : (x : ArmCommand) → Under u t x → WellMapped (next said now x)
+  pub kept-next : (x : ArmCommand) → Under u t x → WellMapped (nextMappings said now x)
   kept-next x k = cases (no-error said now x) (λ h. rw h (kept-does x k h)) (λ h. rw h kept)

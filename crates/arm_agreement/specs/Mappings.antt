@@ -125,8 +125,8 @@ module _ (a : Announced) (m : Mappings) where
   no-error (MOVALL p q) = a .processor p && a .processor q
 
 -- The mappings after a command: an error changes none of them.
-abbrev pub next : Announced → Mappings → ArmCommand → Mappings
-next a m x = if no-error a m x then does x m else m
+abbrev pub nextMappings : Announced → Mappings → ArmCommand → Mappings
+nextMappings a m x = if no-error a m x then does x m else m
 
 -- A message is translated where the unit is enabled, and its device, its event and the event's collection are mapped: into what
 pub record Target : Type 0 where

@@ -27,14 +27,14 @@ pub data Piece : Type 0 where
   high : Piece
 
 -- where the register stands
-abbrev pub place : Reg → ℕ
-place CTLR = GITS-CTLR
-place IIDR = GITS-IIDR
-place TYPER = GITS-TYPER
-place CBASER = GITS-CBASER
-place CWRITER = GITS-CWRITER
-place CREADR = GITS-CREADR
-place (BASER n) = GITS-BASER + 8 * n
+abbrev pub standsAt : Reg → ℕ
+standsAt CTLR = GITS-CTLR
+standsAt IIDR = GITS-IIDR
+standsAt TYPER = GITS-TYPER
+standsAt CBASER = GITS-CBASER
+standsAt CWRITER = GITS-CWRITER
+standsAt CREADR = GITS-CREADR
+standsAt (BASER n) = GITS-BASER + 8 * n
 
 -- its bytes
 abbrev pub bytes : Reg → ℕ
@@ -62,9 +62,9 @@ has (BASER n) p = ltb n GITS-BASER-COUNT
 
 -- the offset of an access to a part
 abbrev pub offset-of : Reg → Piece → ℕ
-offset-of r whole = place r
-offset-of r low = place r
-offset-of r high = place r + 4
+offset-of r whole = standsAt r
+offset-of r low = standsAt r
+offset-of r high = standsAt r + 4
 
 -- the width of that access
 abbrev pub width-of : Reg → Piece → ℕ

@@ -8,7 +8,7 @@ use lib.Dec.{eqb}
 use Rattle.model.specs.Choose.{if_then_else_, whenFound, listOf}
 use Rattle.model.specs.Arm.{_of_, _in-place_, CBASER·Physical-Address, CBASER·Size, CBASER·Valid, page, command-size}
 use Rattle.arm_agreement.specs.Commands.{ArmCommand, commandIn}
-use Rattle.arm_agreement.specs.Mappings.{Mappings, Announced, next}
+use Rattle.arm_agreement.specs.Mappings.{Mappings, Announced, nextMappings}
 
 -- the n-th command from CREADR on stands at Physical_Address plus CREADR plus 32 n, round a ring of Size + 1 pages
 abbrev pub command-place : ℕ → ℕ → ℕ → ℕ
@@ -30,9 +30,9 @@ fetches-if enabled memory cbaser creadr n = if enabled && eqb (CBASER·Valid of 
 -- the mappings after commands, the last one first
 abbrev pub arm-after : Announced → Mappings → List ArmCommand → Mappings
 arm-after a m [] = m
-arm-after a m (x ∷ xs) = next a (arm-after a m xs) x
+arm-after a m (x ∷ xs) = nextMappings a (arm-after a m xs) x
 
 -- the mappings after them, the first one first
 abbrev pub arm-run : Announced → Mappings → List ArmCommand → Mappings
 arm-run a m [] = m
-arm-run a m (x ∷ xs) = arm-run a (next a m x) xs
+arm-run a m (x ∷ xs) = arm-run a (nextMappings a m x) xs

@@ -9,14 +9,14 @@ use Rattle.model.specs.declared.ItsState.{ItsState}
 use Rattle.model.specs.declared.Command.{Command}
 use Rattle.model.specs.declared.Decoded.the-variants.{Known, Unknown}
 use Rattle.model.specs.declared.Refusal.the-variants.{NotInWindow, OpcodeUnknown}
-use Rattle.model.specs.Choose.{if_then_else_, ifFound}
+use Rattle.model.specs.Choose.{ifFound}
 use Rattle.model.specs.Decode.{opcodeOf, decode}
 use Rattle.model.specs.Step.{check}
 use Rattle.model.specs.Queue.{Window, commandAt, commandAddress, stays, judged, turnOn, turn}
 use Rattle.decoding.specs.declared.CommandRead.{CommandRead}
-use Rattle.decoding.specs.Reading.{readOf, commandRead, turnRead}
+use Rattle.decoding.specs.Reading.{readAs, commandRead, turnRead}
 
-by-words : (u : ItsState) (o : Option (List ℕ)) → ifFound o (λ ws. turnOn u (opcodeOf ws) (decode ws)) (stays NotInWindow 0) ≡ turnRead u (readOf o)
+by-words : (u : ItsState) (o : Option (List ℕ)) → ifFound o (λ ws. turnOn u (opcodeOf ws) (decode ws)) (stays NotInWindow 0) ≡ turnRead u (readAs o)
 unfolding turnRead
 by-words u none = refl
 by-words u (some ws) = refl

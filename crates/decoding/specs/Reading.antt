@@ -20,13 +20,13 @@ lent a l = record { address = a; bytes = l }
 abbrev pub noCommand : CommandRead
 noCommand = record { words = replicate 4 0; read = false }
 
-abbrev pub readOf : Option (List ℕ) → CommandRead
-readOf none = noCommand
-readOf (some ws) = record { words = ws; read = true }
+abbrev pub readAs : Option (List ℕ) → CommandRead
+readAs none = noCommand
+readAs (some ws) = record { words = ws; read = true }
 
 -- the command at a guest address
 unfoldable pub commandRead : Window → ℕ → CommandRead
-commandRead w a = readOf (commandAt w a)
+commandRead w a = readAs (commandAt w a)
 
 -- a word of a command
 abbrev pub wordRead : Option (List ℕ) → ℕ → WordRead

@@ -16,7 +16,7 @@ use Rattle.guarantees.specs.MappingsInForce.{begins, a-write}
 use Rattle.guarantees.proofs.Unsound.{no-unit-answers-1}
 use Rattle.mappings.specs.Mappings.{mappingsOf, devicesOf, mappingAt, mappedAt}
 use Rattle.mappings.proofs.InForce.{listed-in-force}
-use Rattle.inforce.specs.Shown.{unitLines, onWith, walk, nothingMore, endOf}
+use Rattle.inforce.specs.Shown.{unitLines, onWith, walk, nothingMore, unitAtEnd}
 use Rattle.inforce.specs.AtEnd.{Standing, Told}
 
 -- a record leads from such a unit to such a unit
@@ -55,8 +55,8 @@ walked (suc k) at s [] h = h
 walked (suc k) at s (b ∷ l) h =
     on (parse (b ∷ l)) s (λ r n. walk (λ s. s .unit) nothingMore k (at + n) (next s r) (drop n (b ∷ l))) h (λ r n. walked k (at + n) (next s r) (drop n (b ∷ l)) (carried s r h))
 
-pub standing : (trace : List ℕ) → Standing (endOf trace)
-unfolding endOf
+pub standing : (trace : List ℕ) → Standing (unitAtEnd trace)
+unfolding unitAtEnd
 standing trace = walked (length trace) 0 atStart trace (inl refl)
 
 -- where none was configured no line is printed: antt computes it
@@ -68,5 +68,5 @@ told : (u : ItsState) → Standing u → Told u
 told u (inl e) = inl (ap unitLines e ∙ nothing)
 told u (inr l) = inr (l, listed-in-force (l .led))
 
-pub told-at-end : (trace : List ℕ) → Told (endOf trace)
-told-at-end trace = told (endOf trace) (standing trace)
+pub told-at-end : (trace : List ℕ) → Told (unitAtEnd trace)
+told-at-end trace = told (unitAtEnd trace) (standing trace)

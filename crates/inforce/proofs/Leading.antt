@@ -12,9 +12,9 @@ use Rattle.text.specs.declared.Laid.{Laid}
 use Rattle.text.specs.Laying.{output, layAll}
 use Rattle.text.proofs.Fits.{append}
 use Rattle.trace.specs.declared.Run.{Run}
-use Rattle.trace.specs.Records.{Stand, stand, outputOf, runningOf, Within, stretchOf, standAt, after, startOf}
+use Rattle.trace.specs.Records.{Stand, stand, outputOf, runningOf, Within, stretchOf, standAt, standAfter, runAtStart}
 use Rattle.trace.proofs.Rest.{Moves, moves}
-use Rattle.inforce.specs.Shown.{unitLines, nothingMore, endOf, recordLines, noLines, moreLines, eachLines}
+use Rattle.inforce.specs.Shown.{unitLines, nothingMore, unitAtEnd, recordLines, noLines, moreLines, eachLines}
 use Rattle.inforce.specs.Listing.{withUnit, listedAfter}
 use Rattle.inforce.proofs.Walking.{rest, forward, ended}
 
@@ -23,7 +23,7 @@ pub record Inside (trace : List ℕ) (run : Run) : Type 0 where
   pub reads : run .at ≤ length trace
   pub lent : run .from + run .size ≤ length trace
 
-starts-inside : (trace : List ℕ) (run : Run) → run ≡ startOf → Inside trace run
+starts-inside : (trace : List ℕ) (run : Run) → run ≡ runAtStart → Inside trace run
 starts-inside trace run e = rw e (record { reads = omega arith; lent = omega arith })
 
 pub ready : (trace : List ℕ) (run : Run) → Inside trace run → Within trace (drop (run .at) trace) run
@@ -34,15 +34,15 @@ abbrev restUnit : List ℕ → Run → ItsState
 restUnit trace run = rest (λ s. s .unit) nothingMore trace run
 
 pub record Leading (trace : List ℕ) (run : Run) : Type 0 where
-  pub same : restUnit trace run ≡ endOf trace
+  pub same : restUnit trace run ≡ unitAtEnd trace
   pub inside : Inside trace run
 
-pub begins : (trace : List ℕ) (run : Run) → run ≡ startOf → Leading trace run
-unfolding endOf
+pub begins : (trace : List ℕ) (run : Run) → run ≡ runAtStart → Leading trace run
+unfolding unitAtEnd
 begins trace run e = record { same = ap (restUnit trace) e; inside = starts-inside trace run e }
 
 module _ (trace : List ℕ) (run : Run) (g : Leading trace run) where
-  module _ (h : run .at < length trace) (out left : List ℕ) (r : Run) (e : stand left r ≡ after trace (stand out run) (parse (drop (run .at) trace))) where
+  module _ (h : run .at < length trace) (out left : List ℕ) (r : Run) (e : stand left r ≡ standAfter trace (stand out run) (parse (drop (run .at) trace))) where
     on : Moves trace run r
     on = rw (ap (λ s. s .run) e) (moves trace (stand out run) h (g .inside .lent))
 
@@ -56,7 +56,7 @@ module _ (trace : List ℕ) (run : Run) (g : Leading trace run) where
     pub less : length trace - r .at < length trace - run .at
     less = omega (arith, on .on, on .reads)
 
-  pub at-end : length trace ≤ run .at → run .unit ≡ endOf trace
+  pub at-end : length trace ≤ run .at → run .unit ≡ unitAtEnd trace
   at-end h = sym (ended (λ s. s .unit) nothingMore trace run h) ∙ g .same
 
 -- After each record.
@@ -71,13 +71,13 @@ pub record Listing (trace out₀ out : List ℕ) (run : Run) : Type 0 where
   pub long : length out ≡ length out₀
   pub inside : Inside trace run
 
-pub lists : (trace out : List ℕ) (run : Run) → run ≡ startOf → Listing trace out out run
+pub lists : (trace out : List ℕ) (run : Run) → run ≡ runAtStart → Listing trace out out run
 unfolding eachLines
 lists trace out run e =
     record { same = ap (λ z. layAll (output out (z .laid)) (restLines trace z)) e; long = refl; inside = starts-inside trace run e }
 
 -- a record's lines, and then those of the unit
-shown-after : (trace : List ℕ) (s : Stand) (p : Parsed) → outputOf (withUnit (after trace s p)) ≡ layAll (outputOf s) (recordLines (runningOf trace (s .run)) (s .run .at) p)
+shown-after : (trace : List ℕ) (s : Stand) (p : Parsed) → outputOf (withUnit (standAfter trace s p)) ≡ layAll (outputOf s) (recordLines (runningOf trace (s .run)) (s .run .at) p)
 shown-after trace s (whole r n) = sym (append (outputOf s) (linesOf (runningOf trace (s .run)) r) (unitLines (next (runningOf trace (s .run)) r .unit)))
 shown-after trace s broken = refl
 
@@ -87,7 +87,7 @@ module _ (trace out₀ out : List ℕ) (run : Run) (g : Listing trace out₀ out
     p = parse (drop (run .at) trace)
 
     s′ : Stand
-    s′ = after trace (stand out run) p
+    s′ = standAfter trace (stand out run) p
 
     moved : Moves trace run r
     unfolding s′ p
@@ -114,6 +114,6 @@ module _ (trace out₀ out : List ℕ) (run : Run) (g : Listing trace out₀ out
   all-listed h = ap (layAll (output out (run .laid))) (sym (ended noLines moreLines trace run h)) ∙ g .same
 
 -- the record is carried out, and then the lines of the unit are laid
-pub then-listed : (trace : List ℕ) (s : Stand) {between : List ℕ} {m : Run} → stand between m ≡ after trace s (parse (drop (s .run .at) trace)) → {left : List ℕ} {laid : Laid} →
+pub then-listed : (trace : List ℕ) (s : Stand) {between : List ℕ} {m : Run} → stand between m ≡ standAfter trace s (parse (drop (s .run .at) trace)) → {left : List ℕ} {laid : Laid} →
     output left laid ≡ layAll (output between (m .laid)) (unitLines (m .unit)) → standAt (output left laid) (m .at) (stretchOf m) (m .unit) ≡ listedAfter trace s
 then-listed trace s {between} {m} e f = ap (λ o. standAt o (m .at) (stretchOf m) (m .unit)) f ∙ ap withUnit e

@@ -10,7 +10,7 @@ use Rattle.model.specs.Choose.{if_then_else_}
 use Rattle.model.proofs.Cases.{cases}
 use lib.ListN.{length}
 use Rattle.model.specs.declared.ItsState.{ItsState}
-use Rattle.mappings.specs.Mappings.{passing, mappingAt, mappedAt, mappingsOf, devicesOf}
+use Rattle.mappings.specs.Mappings.{onesPassing, mappingAt, mappedAt, mappingsOf, devicesOf}
 use Rattle.inforce.specs.Shown.{mappingLine, deviceLine}
 use Rattle.text.specs.Laying.{Output, layAll}
 use Rattle.text.proofs.Fits.{append}
@@ -18,7 +18,7 @@ use Rattle.text.proofs.Fits.{append}
 module _ {A : Type 0} (pass : A → Bool) (at : ℕ → A) (show : A → List ℕ) (size : ℕ) where
   -- the lines of those that are left from the place i on
   abbrev pub left : ℕ → List (List ℕ)
-  left i = map show (passing pass at (size - i) i)
+  left i = map show (onesPassing pass at (size - i) i)
 
   -- the line of one place
   abbrev pub lineAt : ℕ → List (List ℕ)

@@ -8,7 +8,7 @@ use lib.ListN.{length, drop, length-drop, drop-of-length-le}
 use lib.Seq.{drop-drop, drop-length}
 use Rattle.model.specs.Trace.{Record, Parsed, whole, broken, parse, Running, next}
 use Rattle.trace.specs.declared.Run.{Run}
-use Rattle.trace.specs.Records.{Stand, runningOf, after}
+use Rattle.trace.specs.Records.{Stand, runningOf, standAfter}
 use Rattle.trace.proofs.Parsing.{Takes, Sound, sound}
 use Rattle.trace.proofs.Rest.{shorter, leftOf, running-after}
 use Rattle.inforce.specs.Shown.{onWith, walk}
@@ -49,13 +49,13 @@ module _ {A : Type 0} (end : Running → A) (add : Running → ℕ → Parsed �
   rest trace r = walkIn (r .at) (runningOf trace r) (drop (r .at) trace)
 
   carried : (trace : List ℕ) (s : Stand) (p : Parsed) → Sound (leftOf trace s) p →
-      rest trace (after trace s p .run)
+      rest trace (standAfter trace s p .run)
       ≡ onWith end add p (runningOf trace (s .run)) (λ r n. walkIn (s .run .at + n) (next (runningOf trace (s .run)) r) (drop n (leftOf trace s)))
   carried trace s broken h = rw drop-length
   carried trace s (whole r n) h = rw (running-after trace s r n h, drop-drop n (s .run .at) trace)
 
   pub forward : (trace : List ℕ) (s : Stand) → s .run .at < length trace →
-      add (runningOf trace (s .run)) (s .run .at) (parse (leftOf trace s)) (rest trace (after trace s (parse (leftOf trace s)) .run)) ≡ rest trace (s .run)
+      add (runningOf trace (s .run)) (s .run .at) (parse (leftOf trace s)) (rest trace (standAfter trace s (parse (leftOf trace s)) .run)) ≡ rest trace (s .run)
   forward trace s h =
       let some : 0 < length (leftOf trace s) = rw length-drop (omega arith) in
       ap (add (runningOf trace (s .run)) (s .run .at) (parse (leftOf trace s))) (carried trace s (parse (leftOf trace s)) (sound (leftOf trace s)))

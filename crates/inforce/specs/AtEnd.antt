@@ -12,15 +12,15 @@ use Rattle.guarantees.specs.MappingsInForce.{Led}
 use Rattle.inforce.specs.Shown.{unitLines}
 
 -- calls led to the unit
-pub record Lived (u : ItsState) : Type 0 where
+pub record LedTo (u : ItsState) : Type 0 where
   pub config : ItsConfig
   pub history : List Command
   pub led : Led config u history
 
 -- the unit of a trace: no configuration was accepted since the start or the last CF, or calls led to it
 abbrev pub Standing : ItsState → Type 0
-Standing u = (u ≡ noUnit) ⊎ Lived u
+Standing u = (u ≡ noUnit) ⊎ LedTo u
 
 -- what is printed of it: no line; or the lines of the mappings in force and the mapped devices of a history to which calls led
 abbrev pub Told : ItsState → Type 0
-Told u = (unitLines u ≡ []) ⊎ ((l : Lived u) × Listed u (l .history))
+Told u = (unitLines u ≡ []) ⊎ ((l : LedTo u) × Listed u (l .history))

@@ -44,8 +44,8 @@ module _ {A : Type 0} (end : Running → A) (add : Running → ℕ → Parsed �
 abbrev pub nothingMore : Running → ℕ → Parsed → ItsState → ItsState
 nothingMore s at p u = u
 
-unfoldable pub endOf : List ℕ → ItsState
-endOf trace = walk (λ s. s .unit) nothingMore (length trace) 0 atStart trace
+unfoldable pub unitAtEnd : List ℕ → ItsState
+unitAtEnd trace = walk (λ s. s .unit) nothingMore (length trace) 0 atStart trace
 
 -- the lines of a record, and those of the unit after it; a broken record changes nothing
 abbrev pub recordLines : Running → ℕ → Parsed → List (List ℕ)
@@ -63,7 +63,7 @@ eachLines trace = walk noLines moreLines (length trace) 0 atStart trace
 
 -- A plus sign before the trace asks for the mappings after each record; else they are those at the end.
 unfoldable pub shownLines : List ℕ → List (List ℕ)
-shownLines input = if eqb (getD input 0 0) (getD (ascii "+") 0 0) then eachLines (drop 1 input) else unitLines (endOf input)
+shownLines input = if eqb (getD input 0 0) (getD (ascii "+") 0 0) then eachLines (drop 1 input) else unitLines (unitAtEnd input)
 
 -- Up to 32,768 bytes are read (more: the line `LONG` only); the output has room for 65,536, and after a line that does not fit nothing is printed.
 unfoldable pub shown : List ℕ → List ℕ

@@ -7,12 +7,12 @@ ghost use mathlib.Core.Bool.{false};
 ghost use lib.ListN.{drop};
 ghost use Rattle.text.specs.Laying.{output, layAll};
 ghost use Rattle.trace.specs.Records.{stand, Within};
-ghost use Rattle.inforce.specs.Shown.{endOf, eachLines};
+ghost use Rattle.inforce.specs.Shown.{unitAtEnd, eachLines};
 ghost use Rattle.inforce.specs.Listing.{listedAfter};
 
 // The unit to which a trace leads. The lines of the records go nowhere: a byte is lent for them, into which none fits.
 pub fn unit_at_end(trace: &[u8]) -> ItsState
-    ensures { λ r. ⌜ r ≡ endOf (now (trace .entry)) ⌝ }
+    ensures { λ r. ⌜ r ≡ unitAtEnd (now (trace .entry)) ⌝ }
 {
     let end = trace.len();
     let mut unseen = [0u8; 1];

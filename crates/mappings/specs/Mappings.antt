@@ -65,13 +65,13 @@ unfoldable pub mappedAt : ItsState → ℕ → ItsDevice
 mappedAt u i = mappedDevice u i (getD (u .devices) i noDevice)
 
 -- what stands at n places from the place i on, without what does not pass
-abbrev pub passing : {A : Type 0} → (A → Bool) → (ℕ → A) → ℕ → ℕ → List A
-passing pass at zero i = []
-passing pass at (suc n) i = if pass (at i) then at i ∷ passing pass at n (suc i) else passing pass at n (suc i)
+abbrev pub onesPassing : {A : Type 0} → (A → Bool) → (ℕ → A) → ℕ → ℕ → List A
+onesPassing pass at zero i = []
+onesPassing pass at (suc n) i = if pass (at i) then at i ∷ onesPassing pass at n (suc i) else onesPassing pass at n (suc i)
 
 -- THE LIST of the mappings in force, and that of the mapped devices
 unfoldable pub mappingsOf : ItsState → List Mapping
-mappingsOf u = passing (λ m. m .«in_force») (mappingAt u) (length (u .translations)) 0
+mappingsOf u = onesPassing (λ m. m .«in_force») (mappingAt u) (length (u .translations)) 0
 
 unfoldable pub devicesOf : ItsState → List ItsDevice
-devicesOf u = passing (λ r. r .used) (mappedAt u) (length (u .devices)) 0
+devicesOf u = onesPassing (λ r. r .used) (mappedAt u) (length (u .devices)) 0

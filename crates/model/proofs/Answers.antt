@@ -7,8 +7,7 @@ use mathlib.Core.Option.{Option, none, some}
 use lib.Dec.{leb}
 use Rattle.model.specs.declared.ItsState.{ItsState}
 use Rattle.model.specs.declared.Refusal.{Refusal}
-use Rattle.model.specs.declared.Refusal.the-variants.{Unsound, BudgetExceeded}
-use Rattle.model.specs.declared.Verdict.the-variants.{Refused}
+use Rattle.model.specs.declared.Refusal.the-variants.{BudgetExceeded}
 use Rattle.model.specs.declared.WriteAnswer.{WriteAnswer}
 use Rattle.model.specs.declared.WriteAnswer.the-variants.{Taken, NotTaken}
 use Rattle.model.specs.Choose.{if_then_else_, _or_then_}
@@ -16,7 +15,6 @@ use Rattle.model.specs.Refusal.{writeNumbers}
 use Rattle.model.specs.Queue.{Window, waiting, Stop, Ran, ended, run, runQueue}
 use Rattle.model.specs.Entry.{answerOf}
 use Rattle.model.proofs.Cases.{never}
-use Rattle.model.proofs.Stays.{apart}
 
 -- What an answer says of its run.
 
@@ -67,10 +65,3 @@ module _ (w : Window) (v : ItsState) where
   pub queue-off : v .registers .enabled ≡ false → runQueue w v ≡ ended v none
   unfolding runQueue
   queue-off = first-fails (v .registers .enabled) fits _ _ _
-
--- a refusal that is neither 1 nor 5
-pub not-unsound : (r : Refusal) → apart (Refused r) ≡ true → r ≡ Unsound → ⊥
-not-unsound r a h = never (apart (Refused r)) a (rw h)
-
-pub not-budget : (r : Refusal) → apart (Refused r) ≡ true → r ≡ BudgetExceeded → ⊥
-not-budget r a h = never (apart (Refused r)) a (rw h)

@@ -5,7 +5,7 @@ use mathlib.Core.Path.{_≡_, refl, ap, _∙_}
 use mathlib.Core.Bool.{true}
 use mathlib.Core.List.{List, [], _∷_, _++_}
 use mathlib.Core.Option.{none, some}
-use mathlib.Core.Logic.{_⊎_, inl, inr, ⊎-elim, _↔_}
+use mathlib.Core.Logic.{inl, inr, ⊎-elim, _↔_}
 use Rattle.model.specs.declared.Command.{Command}
 use Rattle.model.specs.History.{Says, maps-it, unmaps-it, silent, after, now}
 use Rattle.model.specs.Paragraph.{_∈_, Last}

@@ -25,9 +25,6 @@ module _ {A B : Type 0} (f : A → B) where
   abbrev pub rowOf : List A → List B → List B
   rowOf made row = map f made ++ drop (length made) row
 
-  pub row-none : (row : List B) → rowOf [] row ≡ row
-  row-none row = refl
-
   pub row-long : (made : List A) (row : List B) → length made ≤ length row → length (rowOf made row) ≡ length row
   row-long made row h =
       length-append (map f made) (drop (length made) row)

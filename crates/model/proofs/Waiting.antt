@@ -11,7 +11,7 @@ use borrow.Author.Tests.{ltb-true, ltb-false, leb-true, leb-false, eqb-true}
 use Rattle.model.specs.declared.ItsRegisters.{ItsRegisters}
 use Rattle.model.specs.Arm.{page, command-size}
 use Rattle.model.specs.Config.{queueBase, queueSize, soundRing}
-use Rattle.model.specs.Queue.{distance, waiting, pastCommand}
+use Rattle.model.specs.Queue.{distance, waiting}
 use Rattle.model.specs.Writing.{withCbaser, writerAccepted}
 use Rattle.model.specs.With.{withReader, withWriter}
 use Rattle.model.specs.Passed.{ringOffset}
@@ -92,9 +92,6 @@ module _ (r : ItsRegisters) (s : soundRing r ≡ true) where
       let whole : ringOffset r n % command-size ≡ 0 = wraps-whole (r .creadr + command-size * n) (r .cbaser) ∙ omega arith in
       ring-sound (withReader r (ringOffset r n)) z
       (record { base = k .base; reader = is-offset (r .cbaser) (ringOffset r n) whole (offset-below-size r n); writer = k .writer })
-
-  pub past-sound : eqb (r .cbaser) 0 ≡ false → soundRing (pastCommand r) ≡ true
-  past-sound z = moved-sound z 1
 
   -- and with no base too, as no command waits there
   pub reader-sound : (n : ℕ) → n ≤ waiting r → soundRing (withReader r (ringOffset r n)) ≡ true

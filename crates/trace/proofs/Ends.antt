@@ -16,7 +16,7 @@ use Rattle.text.specs.declared.Laid.{Laid}
 use Rattle.text.specs.Laying.{output, laidAt}
 use Rattle.text.proofs.Fits.{at, full, fits, ending, fitting-within}
 use Rattle.trace.specs.Traced.{Traced}
-use Rattle.trace.specs.Records.{Stand, stand, outputOf, runningOf, startOf, goesOn, numberReturned}
+use Rattle.trace.specs.Records.{Stand, stand, outputOf, runningOf, runAtStart, goesOn, numberReturned}
 use Rattle.trace.proofs.Rest.{linesIn, rest}
 
 -- nothing is left to read
@@ -32,7 +32,7 @@ ended trace s h =
     (λ g. read-out trace s (ltb-false (s .run .at) (length trace) g)))
 
 -- the whole run, from its start
-whole : (trace out : List ℕ) → rest trace (stand out startOf) ≡ ending out 0 (space out) (traceLines trace)
+whole : (trace out : List ℕ) → rest trace (stand out runAtStart) ≡ ending out 0 (space out) (traceLines trace)
 unfolding traceLines
 whole trace out =
     let all : space out - 0 ≡ space out = omega arith in
@@ -43,7 +43,7 @@ unless true n m = refl
 unless false n m = refl
 
 -- what the run leaves is what the model says
-module _ (trace out left : List ℕ) (laid : Laid) (e : output left laid ≡ rest trace (stand out startOf)) where
+module _ (trace out left : List ℕ) (laid : Laid) (e : output left laid ≡ rest trace (stand out runAtStart)) where
   is : output left laid ≡ ending out 0 (space out) (traceLines trace)
   is = e ∙ whole trace out
 

@@ -12,17 +12,17 @@ use Rattle.model.specs.Trace.{parse}
 use Rattle.model.proofs.Cases.{and-left}
 use Rattle.trace.specs.declared.Run.{Run}
 use Rattle.trace.specs.Traced.{Traced}
-use Rattle.trace.specs.Records.{stand, Within, after, startOf, goesOn, numberReturned}
+use Rattle.trace.specs.Records.{stand, Within, standAfter, runAtStart, goesOn, numberReturned}
 use Rattle.trace.proofs.Rest.{rest, forward, Moves, moves}
 use Rattle.trace.proofs.Ends as Ends
 
 pub record Going (trace out₀ out : List ℕ) (run : Run) : Type 0 where
-  pub same : rest trace (stand out run) ≡ rest trace (stand out₀ startOf)
+  pub same : rest trace (stand out run) ≡ rest trace (stand out₀ runAtStart)
   pub long : length out ≡ length out₀
   pub reads : run .at ≤ length trace
   pub lent : run .from + run .size ≤ length trace
 
-pub begins : (trace out : List ℕ) (run : Run) → run ≡ startOf → Going trace out out run
+pub begins : (trace out : List ℕ) (run : Run) → run ≡ runAtStart → Going trace out out run
 begins trace out run e = rw e (record { same = refl; long = refl; reads = omega arith; lent = omega arith })
 
 -- there is a record to read
@@ -33,7 +33,7 @@ module _ (trace out₀ out : List ℕ) (run : Run) (g : Going trace out₀ out r
   pub ready : Within trace (drop (run .at) trace) run
   ready = record { reads = rw length-drop (omega (arith, g .reads)); lent = g .lent }
 
-  module _ (h : goesOn (run .at) (length trace) (run .laid) ≡ true) (left : List ℕ) (r : Run) (e : stand left r ≡ after trace (stand out run) (parse (drop (run .at) trace))) where
+  module _ (h : goesOn (run .at) (length trace) (run .laid) ≡ true) (left : List ℕ) (r : Run) (e : stand left r ≡ standAfter trace (stand out run) (parse (drop (run .at) trace))) where
     on : Moves trace run r
     on = rw (ap (λ s. s .run) e) (moves trace (stand out run) (some trace run h) (g .lent))
 

@@ -10,7 +10,7 @@ use Rattle.model.specs.Trace.{Record, CF, GM, RD, WR, TR, Parsed, whole, broken
 use Rattle.text.specs.Laying.{Output, layAll}
 use Rattle.text.proofs.Fits.{append}
 use Rattle.trace.specs.declared.Run.{Run}
-use Rattle.trace.specs.Records.{Stand, outputOf, runningOf, stretchAfter, after}
+use Rattle.trace.specs.Records.{Stand, outputOf, runningOf, stretchAfter, standAfter}
 use Rattle.trace.proofs.Parsing.{Takes, Sound, sound}
 
 -- two ways to go on that agree on every record that can be read come to the same
@@ -52,14 +52,14 @@ abbrev pub leftOf : List ℕ → Stand → List ℕ
 leftOf trace s = drop (s .run .at) trace
 
 -- the model's unit and window after a record
-pub running-after : (trace : List ℕ) (s : Stand) (r : Record) (n : ℕ) → Takes (leftOf trace s) n r → runningOf trace (after trace s (whole r n) .run) ≡ next (runningOf trace (s .run)) r
+pub running-after : (trace : List ℕ) (s : Stand) (r : Record) (n : ℕ) → Takes (leftOf trace s) n r → runningOf trace (standAfter trace s (whole r n) .run) ≡ next (runningOf trace (s .run)) r
 running-after trace s (CF k) n h = refl
 running-after trace s (GM w) n h = rw (h .lends .1, drop-drop 14 (s .run .at) trace)
 running-after trace s (RD offset width) n h = refl
 running-after trace s (WR offset width value) n h = refl
 running-after trace s (TR d e) n h = refl
 
-carried : (trace : List ℕ) (s : Stand) (p : Parsed) → Sound (leftOf trace s) p → rest trace (after trace s p) ≡ layAll (outputOf s)
+carried : (trace : List ℕ) (s : Stand) (p : Parsed) → Sound (leftOf trace s) p → rest trace (standAfter trace s p) ≡ layAll (outputOf s)
     (goOnWith p (s .run .at) (λ r n. linesOf (runningOf trace (s .run)) r ++ linesIn (s .run .at + n) (next (runningOf trace (s .run)) r) (drop n (leftOf trace s))))
 carried trace s broken h = rw drop-length
 carried trace s (whole r n) h =
@@ -70,7 +70,7 @@ carried trace s (whole r n) h =
     )
 
 -- what is left to do after a record gives the same end as before it
-pub forward : (trace : List ℕ) (s : Stand) → s .run .at < length trace → rest trace (after trace s (parse (leftOf trace s))) ≡ rest trace s
+pub forward : (trace : List ℕ) (s : Stand) → s .run .at < length trace → rest trace (standAfter trace s (parse (leftOf trace s))) ≡ rest trace s
 forward trace s h =
     let some : 0 < length (leftOf trace s) = rw length-drop (omega arith) in
     carried trace s (parse (leftOf trace s)) (sound (leftOf trace s))
@@ -90,11 +90,11 @@ lends-within trace s (RD offset width) n h t l = l
 lends-within trace s (WR offset width value) n h t l = l
 lends-within trace s (TR d e) n h t l = l
 
-moves-on : (trace : List ℕ) (s : Stand) (p : Parsed) → Sound (leftOf trace s) p → s .run .at < length trace → s .run .from + s .run .size ≤ length trace → Moves trace (s .run) (after trace s p .run)
+moves-on : (trace : List ℕ) (s : Stand) (p : Parsed) → Sound (leftOf trace s) p → s .run .at < length trace → s .run .from + s .run .size ≤ length trace → Moves trace (s .run) (standAfter trace s p .run)
 moves-on trace s broken h k l = record { on = k; reads = omega arith; lent = l }
 moves-on trace s (whole r n) h k l =
     let room : s .run .at + n ≤ length trace = omega (arith, h .within, length-drop (s .run .at) trace) in
     record { on = omega (arith, h .some); reads = room; lent = lends-within trace s r n room h l }
 
-pub moves : (trace : List ℕ) (s : Stand) → s .run .at < length trace → s .run .from + s .run .size ≤ length trace → Moves trace (s .run) (after trace s (parse (leftOf trace s)) .run)
+pub moves : (trace : List ℕ) (s : Stand) → s .run .at < length trace → s .run .from + s .run .size ≤ length trace → Moves trace (s .run) (standAfter trace s (parse (leftOf trace s)) .run)
 moves trace s h k = moves-on trace s (parse (leftOf trace s)) (sound (leftOf trace s)) h k

@@ -68,19 +68,19 @@ abbrev pub onward : Stand → ℕ → Stretch → ItsState → List (List ℕ) �
 onward s at p u ls = standAt (layAll (outputOf s) ls) at p u
 
 -- what a record comes to: a broken one is the last, for nothing is left to read
-abbrev pub after : List ℕ → Stand → Parsed → Stand
-after trace s (whole r n) =
+abbrev pub standAfter : List ℕ → Stand → Parsed → Stand
+standAfter trace s (whole r n) =
     onward s (s .run .at + n) (stretchAfter (s .run) n r) (next (runningOf trace (s .run)) r .unit) (linesOf (runningOf trace (s .run)) r)
-after trace s broken =
+standAfter trace s broken =
     onward s (length trace) (stretchOf (s .run)) (s .run .unit) (line "??" (s .run .at ∷ []) ∷ [])
 
 -- what carrying out the record after a mark leaves behind it
 abbrev pub CarriesRecord : Mark → List ℕ → List ℕ → List ℕ → Run → List ℕ → Run → Type 0
-CarriesRecord m trace bytes out run left r = stand left r ≡ after trace (stand out run) (parsedAs m bytes)
+CarriesRecord m trace bytes out run left r = stand left r ≡ standAfter trace (stand out run) (parsedAs m bytes)
 
 -- The start and the end.
-abbrev pub startOf : Run
-startOf = record { at = 0; laid = record { at = 0; full = false }; address = 0; from = 0; size = 0; unit = noUnit }
+abbrev pub runAtStart : Run
+runAtStart = record { at = 0; laid = record { at = 0; full = false }; address = 0; from = 0; size = 0; unit = noUnit }
 
 -- there is a record to run, and a line could still be written
 abbrev pub goesOn : ℕ → ℕ → Laid → Bool

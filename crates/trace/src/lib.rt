@@ -9,7 +9,7 @@ use text::Laid;
 ghost use mathlib.Core.Path.{_≡_};
 ghost use Prim.Native.Nat.{_≤_};
 ghost use Rattle.trace.specs.Traced.{Traced};
-ghost use Rattle.trace.specs.Records.{startOf, numberReturned, goesOn};
+ghost use Rattle.trace.specs.Records.{runAtStart, numberReturned, goesOn};
 
 // The mark of a record.
 pub enum Mark {
@@ -34,7 +34,7 @@ pub struct Run {
 
 // Until an accepted CF calls answer 1; the first window is empty at address 0.
 pub fn start() -> Run
-    ensures { λ r. ⌜ r ≡ startOf ⌝ }
+    ensures { λ r. ⌜ r ≡ runAtStart ⌝ }
 {
     let unit = its::no_unit();
     let laid = Laid { at: 0, full: false };

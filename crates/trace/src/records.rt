@@ -13,7 +13,7 @@ ghost use lib.ListN.{take, drop};
 ghost use Rattle.model.specs.Refusal.{writeNumbers};
 ghost use Rattle.model.specs.Trace.{broken, parse, actionLine, writeLine};
 ghost use Rattle.text.specs.Laying.{lineOf, output, layAll};
-ghost use Rattle.trace.specs.Records.{stand, Within, stretchOf, onward, after, CarriesRecord};
+ghost use Rattle.trace.specs.Records.{stand, Within, stretchOf, onward, standAfter, CarriesRecord};
 
 // One line more, and the trace read up to a place.
 fn moved(out: &mut [u8], run: Run, at: usize, line: Line) -> Run
@@ -29,7 +29,7 @@ fn moved(out: &mut [u8], run: Run, at: usize, line: Line) -> Run
 
 // A bad mark, a short record or a long GM: its line is the last, for nothing is left to read.
 fn broken_off(trace: &[u8], out: &mut [u8], run: Run) -> Run
-    ensures { λ r. ⌜ stand (now (out .exit)) r ≡ after (now (trace .entry)) (stand (now (out .entry)) run) broken ⌝ }
+    ensures { λ r. ⌜ stand (now (out .exit)) r ≡ standAfter (now (trace .entry)) (stand (now (out .entry)) run) broken ⌝ }
 {
     let line = text::lines::of_broken(run.at);
     moved(out, run, trace.len(), line)
@@ -173,7 +173,7 @@ fn written(trace: &[u8], bytes: &[u8], out: &mut [u8], run: Run) -> Run
 // The record whose mark is next.
 pub fn step(trace: &[u8], out: &mut [u8], run: Run) -> Run
     requires { ⌜ Within (now trace) (drop (run .at) (now trace)) run ⌝ }
-    ensures { λ r. ⌜ stand (now (out .exit)) r ≡ after (now (trace .entry)) (stand (now (out .entry)) run) (parse (drop (run .at) (now (trace .entry)))) ⌝ }
+    ensures { λ r. ⌜ stand (now (out .exit)) r ≡ standAfter (now (trace .entry)) (stand (now (out .entry)) run) (parse (drop (run .at) (now (trace .entry)))) ⌝ }
 {
     let at = run.at;
     let bytes = &trace[at..];

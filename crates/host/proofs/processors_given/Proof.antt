@@ -15,21 +15,6 @@ Inv-loop numbers processors₀ i₀ processors i = (processors ≡ filled i numb
 abbrev μ-loop : tie.MeasureT-loop
 μ-loop numbers processors₀ i₀ processors i = 16 - i
 
-mul-t7 : tie.Need-mul-t7 Inv-loop μ-loop
-mul-t7 c = omega arith
-
-shared-slice-read-t9 : tie.Need-shared-slice-read-t9 Inv-loop μ-loop
-shared-slice-read-t9 c = omega arith
-
-mul-processors : tie.Need-mul-processors Inv-loop μ-loop
-mul-processors c = omega arith
-
-array-set-from-processors : tie.Need-array-set-from-processors Inv-loop μ-loop
-array-set-from-processors c = omega arith
-
-add-i : tie.Need-add-i Inv-loop μ-loop
-add-i c = omega arith
-
 loop-less : tie.Need-loop-less Inv-loop μ-loop
 loop-less c = omega arith
 
@@ -56,5 +41,5 @@ pub processors-given-spec : {M : Type 1} → statement M
 processors-given-spec =
     tie.close
     (tie.spec
-    Inv-loop μ-loop (λ c. search needs) mul-t7 shared-slice-read-t9 mul-processors array-set-from-processors add-i loop-less loop-again returns
+    Inv-loop μ-loop (λ c. search needs) (λ c. omega arith) (λ c. omega arith) (λ c. omega arith) (λ c. omega arith) (λ c. omega arith) loop-less loop-again returns
     returns-2)

@@ -1,7 +1,7 @@
 -- `mappings::mapping_at` meets its contract: the first record of its key, then its collection.
 -- Assumes nothing.
 use borrow.Author.Needs.{needs}
-use borrow.Author.Tests.{not-true, not-false, leb-true, leb-false}
+use borrow.Author.Tests.{not-true, not-false}
 use Rattle.command.proofs.Sizes.{sized}
 use Rattle.mappings.proofs.Stands.{another, no-collection, stands}
 use Rattle.mappings.proofs.mapping_at.Statement.{statement}

@@ -12,9 +12,6 @@ abbrev μ-loop : tie.MeasureT-loop
 loop-holds : tie.Need-loop-holds Inv-loop μ-loop
 loop-holds c = tt
 
-sub-left : tie.Need-sub-left Inv-loop μ-loop
-sub-left c = omega arith
-
 further-requires : tie.Need-further-requires Inv-loop μ-loop
 further-requires c κs = tt
 
@@ -30,4 +27,4 @@ returns c = tt
 pub agreeing-spec : {M : Type 1} → statement M
 agreeing-spec =
     tie.close
-    (tie.spec Inv-loop μ-loop loop-holds sub-left further-requires loop-less loop-again returns)
+    (tie.spec Inv-loop μ-loop loop-holds (λ c. omega arith) further-requires loop-less loop-again returns)

@@ -12,9 +12,6 @@ abbrev μ-loop : tie.MeasureT-loop
 loop-holds : tie.Need-loop-holds Inv-loop μ-loop
 loop-holds c = tt
 
-sub-left : tie.Need-sub-left Inv-loop μ-loop
-sub-left c = omega arith
-
 along-requires : tie.Need-along-requires Inv-loop μ-loop
 along-requires c κs = tt
 
@@ -30,4 +27,4 @@ returns c = tt
 pub line-end-spec : {M : Type 1} → statement M
 line-end-spec =
     tie.close
-    (tie.spec Inv-loop μ-loop loop-holds sub-left along-requires loop-less loop-again returns)
+    (tie.spec Inv-loop μ-loop loop-holds (λ c. omega arith) along-requires loop-less loop-again returns)

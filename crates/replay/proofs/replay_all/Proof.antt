@@ -15,9 +15,6 @@ arg-count-requires c κs = tt
 loop-holds : tie.Need-loop-holds Inv-loop μ-loop
 loop-holds c = tt
 
-sub-left : tie.Need-sub-left Inv-loop μ-loop
-sub-left c = omega arith
-
 replay-requires : tie.Need-replay-requires Inv-loop μ-loop
 replay-requires c κs = tt
 
@@ -41,7 +38,7 @@ replay-all-spec =
     μ-loop
     arg-count-requires
     loop-holds
-    sub-left
+    (λ c. omega arith)
     replay-requires
     wrapping-add-usize-requires
     loop-less

@@ -20,12 +20,6 @@ loop-holds c = (omega arith, omega arith)
 returns : tie.Need-returns Inv-loop μ-loop
 returns c = (omega (arith, count-less (c .before .before .loop .left) (c .before .before .loop .m) (c .if1 .taken)), omega arith)
 
-add-k : tie.Need-add-k Inv-loop μ-loop
-add-k c = omega arith
-
-sub-left : tie.Need-sub-left Inv-loop μ-loop
-sub-left c = omega arith
-
 loop-less : tie.Need-loop-less Inv-loop μ-loop
 loop-less c = omega arith
 
@@ -36,4 +30,4 @@ returns-2 : tie.Need-returns-2 Inv-loop μ-loop
 returns-2 c = (omega (arith, count-none (c .before .loop .left) (c .before .loop .m) (c .loop-test .left)), omega arith)
 
 pub digit-count-spec : {M : Type 1} → statement M
-digit-count-spec = tie.close (tie.spec Inv-loop μ-loop loop-holds returns add-k sub-left loop-less loop-again returns-2)
+digit-count-spec = tie.close (tie.spec Inv-loop μ-loop loop-holds returns (λ c. omega arith) (λ c. omega arith) loop-less loop-again returns-2)

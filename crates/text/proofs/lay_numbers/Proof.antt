@@ -21,21 +21,12 @@ abbrev μ-loop : tie.MeasureT-loop
 loop-holds : tie.Need-loop-holds Inv-loop μ-loop
 loop-holds c = search needs
 
-mul-n : tie.Need-mul-n Inv-loop μ-loop
-mul-n c = search needs
-
-array-read-n : tie.Need-array-read-n Inv-loop μ-loop
-array-read-n c = search needs
-
 lay-number-requires : tie.Need-lay-number-requires Inv-loop μ-loop
 lay-number-requires c κs =
     let h = c .before .before .before .loop in
     let a = c .before .before .before .before .before .args in
     let five : length (a .t4) ≡ 5 = search needs in
     omega (arith, left-length (h .i) (a .count) (a .t4) (omega arith) (omega arith))
-
-add-i : tie.Need-add-i Inv-loop μ-loop
-add-i c = omega arith
 
 loop-less : tie.Need-loop-less Inv-loop μ-loop
 loop-less c = omega arith
@@ -52,9 +43,6 @@ loop-again c =
       omega arith,
     )
 
-same-length : tie.Need-same-length Inv-loop μ-loop
-same-length c = search needs
-
 returns : tie.Need-returns Inv-loop μ-loop
 returns c =
     let h = c .before .loop in
@@ -62,9 +50,6 @@ returns c =
     let five : length (a .t4) ≡ 5 = search needs in
     let over = left-out (h .i) (a .count) (a .t4) (omega arith) in
     (omega (arith, ap length over), sym (none (h .out) (h .place)) ∙ rw over at (h .inv .0))
-
-same-length-2 : tie.Need-same-length-2 Inv-loop μ-loop
-same-length-2 c = search needs
 
 returns-2 : tie.Need-returns-2 Inv-loop μ-loop
 returns-2 c =
@@ -80,13 +65,13 @@ lay-numbers-spec =
     Inv-loop
     μ-loop
     loop-holds
-    mul-n
-    array-read-n
+    (λ c. search needs)
+    (λ c. search needs)
     lay-number-requires
-    add-i
+    (λ c. omega arith)
     loop-less
     loop-again
-    same-length
+    (λ c. search needs)
     returns
-    same-length-2
+    (λ c. search needs)
     returns-2)

@@ -19,24 +19,6 @@ abbrev μ-loop : tie.MeasureT-loop
 loop-holds : tie.Need-loop-holds Inv-loop μ-loop
 loop-holds c = search needs
 
-mul-n : tie.Need-mul-n Inv-loop μ-loop
-mul-n c = search needs
-
-array-read-n : tie.Need-array-read-n Inv-loop μ-loop
-array-read-n c = search needs
-
-digit-count-requires : tie.Need-digit-count-requires Inv-loop μ-loop
-digit-count-requires c κs = search needs
-
-add-total : tie.Need-add-total Inv-loop μ-loop
-add-total c = omega arith
-
-add-total-2 : tie.Need-add-total-2 Inv-loop μ-loop
-add-total-2 c = omega arith
-
-add-i : tie.Need-add-i Inv-loop μ-loop
-add-i c = omega arith
-
 loop-less : tie.Need-loop-less Inv-loop μ-loop
 loop-less c = omega arith
 
@@ -70,12 +52,12 @@ numbers-length-spec =
     Inv-loop
     μ-loop
     loop-holds
-    mul-n
-    array-read-n
-    digit-count-requires
-    add-total
-    add-total-2
-    add-i
+    (λ c. search needs)
+    (λ c. search needs)
+    (λ c κs. search needs)
+    (λ c. omega arith)
+    (λ c. omega arith)
+    (λ c. omega arith)
     loop-less
     loop-again
     returns

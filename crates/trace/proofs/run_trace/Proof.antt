@@ -14,14 +14,8 @@ Inv-loop trace out₀ end run₀ out run = Going trace out₀ out run
 abbrev μ-loop : tie.MeasureT-loop
 μ-loop trace out₀ end run₀ out run = length trace - run .at
 
-start-requires : tie.Need-start-requires Inv-loop μ-loop
-start-requires c κs = search needs
-
 loop-holds : tie.Need-loop-holds Inv-loop μ-loop
 loop-holds c = begins (c .before .before .before .args .trace .now) (c .before .before .before .args .out .now) (c .start .result) (c .start .ensures)
-
-goes-on-requires : tie.Need-goes-on-requires Inv-loop μ-loop
-goes-on-requires c κs = search needs
 
 step-requires : tie.Need-step-requires Inv-loop μ-loop
 step-requires c κs =
@@ -65,9 +59,9 @@ run-trace-spec =
     (tie.spec
     Inv-loop
     μ-loop
-    start-requires
+    (λ c κs. search needs)
     loop-holds
-    goes-on-requires
+    (λ c κs. search needs)
     step-requires
     loop-less
     loop-again

@@ -19,9 +19,6 @@ Inv-loop bytes at word₀ past₀ word past = (past ≤ 8) × (word ≡ littleEn
 abbrev μ-loop : tie.MeasureT-loop
 μ-loop bytes at word₀ past₀ word past = past
 
-is-there-requires : tie.Need-is-there-requires Inv-loop μ-loop
-is-there-requires c κs = search needs
-
 whole-word-requires : tie.Need-whole-word-requires Inv-loop μ-loop
 whole-word-requires c κs =
     let a = c .before .before .before .args in
@@ -32,15 +29,6 @@ returns c = search needs
 
 loop-holds : tie.Need-loop-holds Inv-loop μ-loop
 loop-holds c = search needs
-
-sub-past : tie.Need-sub-past Inv-loop μ-loop
-sub-past c = omega arith
-
-byte-at-requires : tie.Need-byte-at-requires Inv-loop μ-loop
-byte-at-requires c κs = search needs
-
-wide-requires : tie.Need-wide-requires Inv-loop μ-loop
-wide-requires c κs = search needs
 
 -- a byte more fits a word: seven bytes at most are in it already
 room : (c : tie.After-wide Inv-loop μ-loop) → c .before .before .before .loop .word < 256 ^ 7
@@ -83,13 +71,13 @@ word-at-spec =
     (tie.spec
     Inv-loop
     μ-loop
-    is-there-requires
+    (λ c κs. search needs)
     whole-word-requires
     returns
     loop-holds
-    sub-past
-    byte-at-requires
-    wide-requires
+    (λ c. omega arith)
+    (λ c κs. search needs)
+    (λ c κs. search needs)
     mul-word
     add-word
     loop-less

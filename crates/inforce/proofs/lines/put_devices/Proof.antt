@@ -24,15 +24,6 @@ abbrev μ-loop : tie.MeasureT-loop
 loop-holds : tie.Need-loop-holds Inv-loop μ-loop
 loop-holds c = search (needs, length-mapped)
 
-device-at-requires : tie.Need-device-at-requires Inv-loop μ-loop
-device-at-requires c κs = search needs
-
-put-device-requires : tie.Need-put-device-requires Inv-loop μ-loop
-put-device-requires c κs = search needs
-
-add-i : tie.Need-add-i Inv-loop μ-loop
-add-i c = omega arith
-
 loop-less : tie.Need-loop-less Inv-loop μ-loop
 loop-less c = omega arith
 
@@ -45,9 +36,6 @@ loop-again c =
       h .inv .2,
       omega arith,
     )
-
-same-length : tie.Need-same-length Inv-loop μ-loop
-same-length c = search needs
 
 returns : tie.Need-returns Inv-loop μ-loop
 returns c =
@@ -62,10 +50,10 @@ put-devices-spec =
     Inv-loop
     μ-loop
     loop-holds
-    device-at-requires
-    put-device-requires
-    add-i
+    (λ c κs. search needs)
+    (λ c κs. search needs)
+    (λ c. omega arith)
     loop-less
     loop-again
-    same-length
+    (λ c. search needs)
     returns)

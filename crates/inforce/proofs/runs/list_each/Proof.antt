@@ -13,9 +13,6 @@ Inv-loop trace out₀ end run₀ out run = Listing trace out₀ out run
 abbrev μ-loop : tie.MeasureT-loop
 μ-loop trace out₀ end run₀ out run = length trace - run .at
 
-start-requires : tie.Need-start-requires Inv-loop μ-loop
-start-requires c κs = search needs
-
 loop-holds : tie.Need-loop-holds Inv-loop μ-loop
 loop-holds c = lists (c .before .before .before .args .trace .now) (c .before .before .before .args .out .now) (c .start .result) (c .start .ensures)
 
@@ -52,7 +49,7 @@ list-each-spec =
     (tie.spec
     Inv-loop
     μ-loop
-    start-requires
+    (λ c κs. search needs)
     loop-holds
     step-listed-requires
     loop-less

@@ -14,9 +14,6 @@ Inv-loop trace end unseen₀ run₀ unseen run = (length unseen ≡ 1) × Leadin
 abbrev μ-loop : tie.MeasureT-loop
 μ-loop trace end unseen₀ run₀ unseen run = length trace - run .at
 
-start-requires : tie.Need-start-requires Inv-loop μ-loop
-start-requires c κs = search needs
-
 loop-holds : tie.Need-loop-holds Inv-loop μ-loop
 loop-holds c = (refl, begins (c .before .before .args .trace .now) (c .start .result) (c .start .ensures))
 
@@ -49,7 +46,7 @@ unit-at-end-spec =
     (tie.spec
     Inv-loop
     μ-loop
-    start-requires
+    (λ c κs. search needs)
     loop-holds
     slice-aggregate-step
     step-requires

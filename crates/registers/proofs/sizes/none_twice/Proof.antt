@@ -20,21 +20,6 @@ abbrev μ-loop : tie.MeasureT-loop
 loop-holds : tie.Need-loop-holds Inv-loop μ-loop
 loop-holds c = refl
 
-mul-p : tie.Need-mul-p Inv-loop μ-loop
-mul-p c = omega arith
-
-array-copy-out-p : tie.Need-array-copy-out-p Inv-loop μ-loop
-array-copy-out-p c = omega arith
-
-add-next : tie.Need-add-next Inv-loop μ-loop
-add-next c = omega arith
-
-is-found-from-requires : tie.Need-is-found-from-requires Inv-loop μ-loop
-is-found-from-requires c κs = search needs
-
-add-i : tie.Need-add-i Inv-loop μ-loop
-add-i c = omega arith
-
 loop-less : tie.Need-loop-less Inv-loop μ-loop
 loop-less c = omega arith
 
@@ -73,11 +58,11 @@ none-twice-spec =
     Inv-loop
     μ-loop
     loop-holds
-    mul-p
-    array-copy-out-p
-    add-next
-    is-found-from-requires
-    add-i
+    (λ c. omega arith)
+    (λ c. omega arith)
+    (λ c. omega arith)
+    (λ c κs. search needs)
+    (λ c. omega arith)
     loop-less
     loop-again
     returns

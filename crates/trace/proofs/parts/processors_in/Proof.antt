@@ -17,26 +17,8 @@ abbrev μ-loop : tie.MeasureT-loop
 loop-holds : tie.Need-loop-holds Inv-loop μ-loop
 loop-holds c = search needs
 
-mul-place : tie.Need-mul-place Inv-loop μ-loop
-mul-place c = omega arith
-
-add-place : tie.Need-add-place Inv-loop μ-loop
-add-place c = omega arith
-
 number-at-requires : tie.Need-number-at-requires Inv-loop μ-loop
 number-at-requires c κs = (omega arith, omega arith)
-
-cast-n : tie.Need-cast-n Inv-loop μ-loop
-cast-n c = omega arith
-
-mul-processors : tie.Need-mul-processors Inv-loop μ-loop
-mul-processors c = omega arith
-
-array-set-from-processors : tie.Need-array-set-from-processors Inv-loop μ-loop
-array-set-from-processors c = omega arith
-
-add-i : tie.Need-add-i Inv-loop μ-loop
-add-i c = omega arith
 
 loop-less : tie.Need-loop-less Inv-loop μ-loop
 loop-less c = omega arith
@@ -68,13 +50,13 @@ processors-in-spec =
     Inv-loop
     μ-loop
     loop-holds
-    mul-place
-    add-place
+    (λ c. omega arith)
+    (λ c. omega arith)
     number-at-requires
-    cast-n
-    mul-processors
-    array-set-from-processors
-    add-i
+    (λ c. omega arith)
+    (λ c. omega arith)
+    (λ c. omega arith)
+    (λ c. omega arith)
     loop-less
     loop-again
     returns

@@ -17,32 +17,8 @@ Inv-loop out₀ row next₀ count i₀ out next i = (layAll (output out next) (l
 abbrev μ-loop : tie.MeasureT-loop
 μ-loop out₀ row next₀ count i₀ out next i = 1024 - i
 
-of-write-requires : tie.Need-of-write-requires Inv-loop μ-loop
-of-write-requires c κs = search needs
-
-put-line-requires : tie.Need-put-line-requires Inv-loop μ-loop
-put-line-requires c κs = search needs
-
-handed-requires : tie.Need-handed-requires Inv-loop μ-loop
-handed-requires c κs = search needs
-
 loop-holds : tie.Need-loop-holds Inv-loop μ-loop
 loop-holds c = search (needs, length-mapped)
-
-mul-action : tie.Need-mul-action Inv-loop μ-loop
-mul-action c = search needs
-
-array-copy-out-action : tie.Need-array-copy-out-action Inv-loop μ-loop
-array-copy-out-action c = search needs
-
-of-action-requires : tie.Need-of-action-requires Inv-loop μ-loop
-of-action-requires c κs = search needs
-
-put-line-requires-2 : tie.Need-put-line-requires-2 Inv-loop μ-loop
-put-line-requires-2 c κs = search needs
-
-add-i : tie.Need-add-i Inv-loop μ-loop
-add-i c = omega arith
 
 loop-less : tie.Need-loop-less Inv-loop μ-loop
 loop-less c = omega arith
@@ -59,9 +35,6 @@ loop-again c =
       omega arith,
     )
 
-same-length : tie.Need-same-length Inv-loop μ-loop
-same-length c = search needs
-
 returns : tie.Need-returns Inv-loop μ-loop
 returns c =
     let h = c .before .loop in
@@ -69,9 +42,6 @@ returns c =
     let n = c .before .before .handed in
     rw (left-out (h .i) (n .result) (a .t4) (omega arith)) at (h .inv .0)
     ∙ rw (c .before .before .before .before .before .put-line .ensures, c .before .before .before .before .before .before .before .of-write .ensures, n .ensures)
-
-same-length-2 : tie.Need-same-length-2 Inv-loop μ-loop
-same-length-2 c = search needs
 
 returns-2 : tie.Need-returns-2 Inv-loop μ-loop
 returns-2 c =
@@ -87,18 +57,18 @@ put-written-spec =
     (tie.spec
     Inv-loop
     μ-loop
-    of-write-requires
-    put-line-requires
-    handed-requires
+    (λ c κs. search needs)
+    (λ c κs. search needs)
+    (λ c κs. search needs)
     loop-holds
-    mul-action
-    array-copy-out-action
-    of-action-requires
-    put-line-requires-2
-    add-i
+    (λ c. search needs)
+    (λ c. search needs)
+    (λ c κs. search needs)
+    (λ c κs. search needs)
+    (λ c. omega arith)
     loop-less
     loop-again
-    same-length
+    (λ c. search needs)
     returns
-    same-length-2
+    (λ c. search needs)
     returns-2)
