@@ -2,8 +2,10 @@
 # The documents against the files that they speak of; nothing is built. One line each:
 #   docs/SENTENCES.md     no empty cell, and every definition, proof, function, theorem and must-fail edit that it names is there
 #   docs/GUARANTEES.md    every definition and proof that it names is there, and its must-fail edits are those of crates/guarantees
-#   docs/DIFFERENCES.md   every entry of its tables is there with all its parts, under the same title and in order; each trace on the page is the
-#                         file in oracle/traces, each run of lines the file in crates/replay/data/recorded; every difference-* file is on the page
+#   docs/DIFFERENCES.md   every entry of its tables is there with all its parts, under the same title and in order, in both parts; page one names those
+#                         that can file a recording wrongly, and no other; each trace on the page is the file in oracle/traces, each run of lines
+#                         the file in crates/replay/data/recorded; every difference-* file is on the page
+#   docs/ARM.md           every fact that a definition or an entry names by its number is there, and every fact is named by one
 #   docs/SECOND-VISIT.md  its pieces of a trace, one after the other, are the file in oracle/traces, and its pieces of lines the recorded file
 #   crates/replay         `args` names every trace and its lines, in order, and `stdout` says how many there are
 # That the recorded lines are the Rust's is for tools/oracle.sh. `tools/documents.sh write` makes the two files of crates/replay anew.
@@ -105,16 +107,37 @@ def guarantees(page, wrong):
 
 
 def differences(page, wrong):
-    rows, entries = [], []
+    """Part one: the tables, and an entry for each row but those of the last table. Part two: every entry in detail. Page one names the first kinds."""
+    tables, entries, details = [], [], []
+    for line in page.split("\n"):
+        row = re.fullmatch(r"\| ([RS][0-9]+) \| (.*) \|", line)
+        if line == "| no. | difference |":
+            tables.append({})
+        elif row:
+            any(row[1] in table for table in tables) and wrong(f"{row[1]} is in the tables twice")
+            tables[-1][row[1]] = row[2]
+    len(tables) == 6 or wrong(f"{len(tables)} tables, and not one for each kind")
     blocks = {"trace": {}, "lines": {}}
-
-    def close(number, parts, traces, lines, excused):
-        parts == ["Arm", "The Rust", "The port", "For a recording"] or wrong(f"{number} lacks a part, or has them in another order")
-        traces == lines or wrong(f"{number}: a trace without lines, or lines without a trace")
-        traces or excused or wrong(f"{number} has no trace, and does not say that none can show it")
-        traces and excused and wrong(f"{number} has a trace, and says that none can show it")
-
     entry = None
+
+    def close(number, title, parts, traces, lines, excused, detailed):
+        kind = next((k for k, table in enumerate(tables) if number in table), None)
+        if kind is None:
+            return wrong(f"{number} is in no table")
+        touches = kind < len(tables) - 1
+        told = ["Arm", "The Rust", "The port"] if detailed else []
+        told += ["What happens"] if not detailed else []
+        told += ["For a recording"] if not detailed or not touches else []
+        told += ["How one would notice it", "What to ask"] if not detailed and kind < 3 else []
+        parts == told or wrong(f"{number} has the parts {parts} and not {told}")
+        tables[kind][number] == title or wrong(f"{number}: the titles differ")
+        traces == lines or wrong(f"{number}: a trace without lines, or lines without a trace")
+        if detailed:
+            traces or excused or wrong(f"{number} has no trace, and does not say that none can show it")
+            traces and excused and wrong(f"{number} has a trace, and says that none can show it")
+        elif traces or not touches:
+            wrong(f"{number}: part one has no traces, and no entry of the last table")
+
     for piece in [*pieces(page), "#"]:  # a heading closes the last entry
         if isinstance(piece, tuple):
             head, text = piece
@@ -128,24 +151,25 @@ def differences(page, wrong):
             else:
                 blocks[kind][name] = text
                 entry["traces" if kind == "trace" else "lines"] += 1
-        elif re.match(r"\| [RS][0-9]+ \|", piece):
-            number, title, verdict = (piece[2:].removesuffix(" |").split(" | ") + ["", ""])[:3]
-            rows.append(f"{number}. {title}")
-            if not re.match("(yes|no|only with a faulty driver|only with a faulty host)($|[,:])", verdict):
-                wrong(f"{number}: no verdict in the table")
         elif piece.startswith("#"):
             if entry:
                 close(**entry)
-            found = re.match(r"### (([RS][0-9]+)\. .*)", piece)
-            entry = found and {"number": found[2], "parts": [], "traces": 0, "lines": 0, "excused": False}
+            found = re.match(r"### ([RS][0-9]+)(?:\. (.*)| in detail)$", piece)
+            entry = found and dict(number=found[1], title=found[2], parts=[], traces=0, lines=0, excused=False, detailed=not found[2])
             if found:
-                entries.append(found[1])
+                (entries if found[2] else details).append(found[1])
         elif entry:
-            entry["parts"] += re.findall(r"^- \*\*(Arm|The Rust|The port|For a recording)\.\*\* ", piece)
+            if entry["title"] is None and piece:
+                entry["title"] = piece.strip("*").removesuffix(".")
+            entry["parts"] += re.findall(r"^- \*\*(Arm|The Rust|The port|What happens|For a recording|How one would notice it|What to ask)\b[^*]*\.\*\* ", piece)
             entry["excused"] |= piece.startswith("No trace can show ")
-    if rows != entries:
-        wrong("the tables and the entries differ:\n" + "\n".join(difflib.unified_diff(rows, entries, "tables", "entries", n=0, lineterm="")))
-    len(set(entries)) == len(entries) or wrong("an entry stands twice")
+    listed = [number for table in tables[:-1] for number in table]
+    entries == listed or wrong("part one does not follow its tables:\n" + "\n".join(difflib.unified_diff(listed, entries, "tables", "entries", n=0, lineterm="")))
+    every = sorted(number for table in tables for number in table)
+    details == every or wrong("part two lacks an entry, or has them in another order:\n" + "\n".join(difflib.unified_diff(every, details, "tables", "details", n=0, lineterm="")))
+    first = set(re.findall("[RS][0-9][0-9]", page.split("## What the words mean")[0]))
+    grave = {number for table in tables[:3] for number in table}
+    first == grave or wrong(f"page one and the first three tables differ: {sorted(first ^ grave)}")
     for name, text in blocks["trace"].items():
         held(wrong, text, f"oracle/traces/{name}.txt")
         held(wrong, blocks["lines"].get(name), f"{RECORDED}/{name}.expect")
@@ -154,15 +178,30 @@ def differences(page, wrong):
             path.split("/")[-1].rsplit(".", 1)[0] in blocks["trace"] or wrong(f"{path} is not in it")
     for ten, sixteen in re.findall("([0-9]+) is 0x([0-9A-Fa-f]+)", page):
         int(ten) == int(sixteen, 16) or wrong(f"{ten} is not 0x{sixteen}")
-    return f"{len(entries)} entries, {len(blocks['trace'])} of them with a trace, as in the files"
+    return f"{len(every)} entries, {len(blocks['trace'])} of them with a trace, as in the files"
+
+
+def facts(page, wrong):
+    """The facts are numbered without a gap, and those that definitions and DIFFERENCES.md name are these. `F03 to F05` names three."""
+    rows = re.findall(r"^\| F([0-9]+) \|", page, re.M)
+    rows == [f"{n:02}" for n in range(1, len(rows) + 1)] or wrong("the facts are not numbered one after the other")
+    named = set()
+    for path in ["docs/DIFFERENCES.md", *glob.glob("crates/*/specs/*.antt"), *glob.glob("crates/*/README.md")]:
+        for low, high in re.findall(r"\bF([0-9][0-9])(?: to F([0-9][0-9]))?\b", read(path)):
+            numbers = {f"{n:02}" for n in range(int(low), int(high or low) + 1)}
+            numbers <= set(rows) or wrong(f"{path} names F{low}{' to F' + high if high else ''}, which is not there")
+            named |= numbers
+    for row in sorted(set(rows) - named):
+        wrong(f"F{row} is named by no definition and no entry")
+    return f"{len(rows)} facts, each of them named"
 
 
 def visit(page, wrong):
     blocks = [piece for piece in pieces(page) if isinstance(piece, tuple)]
-    for name in "second-visit", "second-visit-unmapped":
+    for name in "second-visit", "second-visit-unmapped", "second-visit-new-tables":
         for kind, path in ("trace", f"oracle/traces/{name}.txt"), ("lines", f"{RECORDED}/{name}.expect"):
             held(wrong, "".join(text or "" for head, text in blocks if head == f"```{kind} {name}"), path)
-    return "two traces and their lines, as in the files"
+    return "three traces and their lines, as in the files"
 
 
 def replay(write, wrong):
@@ -184,7 +223,7 @@ def replay(write, wrong):
 if sys.argv[1:] not in ([], ["write"]):
     sys.exit("usage: tools/documents.sh [write]")
 failed = False
-pages = {"SENTENCES": sentences, "GUARANTEES": guarantees, "DIFFERENCES": differences, "SECOND-VISIT": visit}
+pages = {"SENTENCES": sentences, "GUARANTEES": guarantees, "DIFFERENCES": differences, "ARM": facts, "SECOND-VISIT": visit}
 checks = [(f"docs/{name}.md", check, read(f"docs/{name}.md")) for name, check in pages.items()] + [("crates/replay", replay, sys.argv[1:])]
 for name, check, given in checks[-1:] if sys.argv[1:] else checks:
     complaints = []

@@ -1,5 +1,6 @@
 -- Arm IHI 0069, the ITS part: the registers and command fields that document 01's unit has, each under its name in the standard (with `-` for
--- `_`) and with its bits, high:low; a command's field also says in which of the four doublewords it lies. Nothing here is the Rust's.
+-- `_`) and with its bits, high:low; a command's field also says in which of the four doublewords it lies. Nothing here is the Rust's. F01 and on are the
+-- facts of docs/ARM.md.
 -- Assumes nothing.
 use Prim.Native.Nat.{ℕ, _+_, _-_, _*_, _/_, _%_, _^_}
 use mathlib.Core.Bool.{Bool, _&&_}
@@ -35,7 +36,7 @@ F in-place w = F holding (F of w)
 abbrev pub without : Field → ℕ → ℕ
 without F w = w - F in-place w
 
--- The halves of a 64-bit register, which a 32-bit access reads and writes.
+-- The halves of a 64-bit register, which a 32-bit access reads and writes (F29).
 abbrev pub low-half : Field
 low-half = bits 31 0
 
@@ -68,11 +69,11 @@ GITS-BASER = 0x100
 abbrev pub GITS-BASER-COUNT : ℕ
 GITS-BASER-COUNT = 8
 
--- the identification registers, PIDR4 to CIDR3
+-- the identification registers, PIDR4 to CIDR3 (F26)
 abbrev pub isIdentification : ℕ → Bool
 isIdentification offset = leb 0xFFD0 offset && leb offset 0xFFFF
 
--- GITS_CTLR
+-- GITS_CTLR (F01)
 abbrev pub CTLR·Enabled : Field
 CTLR·Enabled = bit 0
 
@@ -85,14 +86,14 @@ CTLR·ITS-Number = bits 7 4
 abbrev pub CTLR·UMSIirq : Field
 CTLR·UMSIirq = bit 8
 
--- read only: all work done after Enabled went to 0
+-- read only: all work done after Enabled went to 0 (F02)
 abbrev pub CTLR·Quiescent : Field
 CTLR·Quiescent = bit 31
 
 abbrev pub CTLR·fields : List Field
 CTLR·fields = CTLR·Enabled ∷ CTLR·ImDe ∷ CTLR·ITS-Number ∷ CTLR·UMSIirq ∷ CTLR·Quiescent ∷ []
 
--- GITS_IIDR
+-- GITS_IIDR (F04)
 abbrev pub IIDR·Implementer : Field
 IIDR·Implementer = bits 11 0
 
@@ -108,7 +109,7 @@ IIDR·ProductID = bits 31 24
 abbrev pub IIDR·fields : List Field
 IIDR·fields = IIDR·Implementer ∷ IIDR·Revision ∷ IIDR·Variant ∷ IIDR·ProductID ∷ []
 
--- GITS_TYPER
+-- GITS_TYPER (F05)
 abbrev pub TYPER·Physical : Field
 TYPER·Physical = bit 0
 
@@ -118,15 +119,15 @@ TYPER·Virtual = bit 1
 abbrev pub TYPER·CCT : Field
 TYPER·CCT = bit 2
 
--- bytes of an ITT entry, minus 1
+-- bytes of an ITT entry, minus 1 (F08)
 abbrev pub TYPER·ITT-entry-size : Field
 TYPER·ITT-entry-size = bits 7 4
 
--- EventID bits, minus 1
+-- EventID bits, minus 1 (F06)
 abbrev pub TYPER·ID-bits : Field
 TYPER·ID-bits = bits 12 8
 
--- DeviceID bits, minus 1
+-- DeviceID bits, minus 1 (F07)
 abbrev pub TYPER·Devbits : Field
 TYPER·Devbits = bits 17 13
 
@@ -148,10 +149,35 @@ TYPER·CIL = bit 36
 abbrev pub TYPER·VMOVP : Field
 TYPER·VMOVP = bit 37
 
-abbrev pub TYPER·fields : List Field
-TYPER·fields = TYPER·Physical ∷ TYPER·Virtual ∷ TYPER·CCT ∷ TYPER·ITT-entry-size ∷ TYPER·ID-bits ∷ TYPER·Devbits ∷ TYPER·SEIS ∷ TYPER·PTA ∷ TYPER·HCC ∷ TYPER·CIDbits ∷ TYPER·CIL ∷ TYPER·VMOVP ∷ []
+abbrev pub TYPER·MPAM : Field
+TYPER·MPAM = bit 38
 
--- GITS_CBASER
+abbrev pub TYPER·VSGI : Field
+TYPER·VSGI = bit 39
+
+abbrev pub TYPER·VMAPP : Field
+TYPER·VMAPP = bit 40
+
+abbrev pub TYPER·SVPET : Field
+TYPER·SVPET = bits 42 41
+
+abbrev pub TYPER·nID : Field
+TYPER·nID = bit 43
+
+abbrev pub TYPER·UMSI : Field
+TYPER·UMSI = bit 44
+
+abbrev pub TYPER·UMSIirq : Field
+TYPER·UMSIirq = bit 45
+
+abbrev pub TYPER·INV : Field
+TYPER·INV = bit 46
+
+abbrev pub TYPER·fields : List Field
+TYPER·fields = TYPER·Physical ∷ TYPER·Virtual ∷ TYPER·CCT ∷ TYPER·ITT-entry-size ∷ TYPER·ID-bits ∷ TYPER·Devbits ∷ TYPER·SEIS ∷ TYPER·PTA ∷ TYPER·HCC ∷ TYPER·CIDbits ∷ TYPER·CIL ∷ TYPER·VMOVP
+    ∷ TYPER·MPAM ∷ TYPER·VSGI ∷ TYPER·VMAPP ∷ TYPER·SVPET ∷ TYPER·nID ∷ TYPER·UMSI ∷ TYPER·UMSIirq ∷ TYPER·INV ∷ []
+
+-- GITS_CBASER (F12)
 -- pages of 4 KB, minus 1
 abbrev pub CBASER·Size : Field
 CBASER·Size = bits 7 0
@@ -174,7 +200,7 @@ CBASER·Valid = bit 63
 abbrev pub CBASER·fields : List Field
 CBASER·fields = CBASER·Size ∷ CBASER·Shareability ∷ CBASER·Physical-Address ∷ CBASER·OuterCache ∷ CBASER·InnerCache ∷ CBASER·Valid ∷ []
 
--- GITS_CWRITER
+-- GITS_CWRITER (F17)
 abbrev pub CWRITER·Retry : Field
 CWRITER·Retry = bit 0
 
@@ -185,7 +211,7 @@ CWRITER·Offset = bits 19 5
 abbrev pub CWRITER·fields : List Field
 CWRITER·fields = CWRITER·Retry ∷ CWRITER·Offset ∷ []
 
--- GITS_CREADR
+-- GITS_CREADR (F20)
 abbrev pub CREADR·Stalled : Field
 CREADR·Stalled = bit 0
 
@@ -195,7 +221,7 @@ CREADR·Offset = bits 19 5
 abbrev pub CREADR·fields : List Field
 CREADR·fields = CREADR·Stalled ∷ CREADR·Offset ∷ []
 
--- GITS_BASER n
+-- GITS_BASER n (F22)
 abbrev pub BASER·Size : Field
 BASER·Size = bits 7 0
 
@@ -231,7 +257,7 @@ BASER·Valid = bit 63
 abbrev pub BASER·fields : List Field
 BASER·fields = BASER·Size ∷ BASER·Page-Size ∷ BASER·Shareability ∷ BASER·Physical-Address ∷ BASER·Entry-Size ∷ BASER·OuterCache ∷ BASER·Type ∷ BASER·InnerCache ∷ BASER·Indirect ∷ BASER·Valid ∷ []
 
--- BASER.Type of the tables of devices and of collections
+-- BASER.Type of the tables of devices and of collections (F23)
 abbrev pub of-devices : ℕ
 of-devices = 1
 
@@ -242,7 +268,7 @@ of-collections = 4
 abbrev pub page : ℕ
 page = 4096
 
--- Commands: four little-endian doublewords.
+-- Commands: four little-endian doublewords (F38 to F46).
 abbrev pub command-size : ℕ
 command-size = 32
 
@@ -285,7 +311,7 @@ ICID = dw 2 (bits 15 0)
 abbrev pub ITT-addr : CommandField
 ITT-addr = dw 2 (bits 51 8)
 
--- MAPC and SYNC: with TYPER.PTA 0, a processor number
+-- MAPC and SYNC: with TYPER.PTA 0, a processor number (F09)
 abbrev pub RDbase : CommandField
 RDbase = dw 2 (bits 50 16)
 
@@ -327,6 +353,6 @@ op-INVALL = 0x0D
 abbrev pub op-DISCARD : ℕ
 op-DISCARD = 0x0F
 
--- LPIs have INTID 8192 and up
+-- LPIs have INTID 8192 and up (F58)
 abbrev pub LPI-base : ℕ
 LPI-base = 8192
