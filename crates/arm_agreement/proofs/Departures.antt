@@ -12,7 +12,7 @@ use Rattle.model.specs.declared.Refusal.the-variants.{BaseZero, WriterRefused}
 use Rattle.model.specs.declared.WriteAnswer.the-variants.{NotTaken}
 use Rattle.model.specs.declared.TranslateAnswer.the-variants.{Delivered}
 use Rattle.model.specs.Choose.{isFound}
-use Rattle.model.specs.Arm.{_of_, CTLR·Quiescent, CREADR·Stalled, GITS-CTLR, GITS-CBASER, GITS-CWRITER}
+use Rattle.model.specs.Arm.{_of_, _in-place_, BASER·Physical-Address, CTLR·Quiescent, CREADR·Stalled, GITS-CTLR, GITS-CBASER, GITS-CWRITER, GITS-BASER}
 use Rattle.model.specs.Keys.{delivery}
 use Rattle.model.specs.With.{withRegisters, withEnabled, withRing}
 use Rattle.model.specs.Config.{freshUnit}
@@ -21,9 +21,9 @@ use Rattle.model.specs.Entry.{translate, write}
 use Rattle.model.specs.Corners.{withLimit, writing}
 use Rattle.model.proofs.Computed.{shown}
 use Rattle.arm_agreement.specs.Commands.{ArmCommand, MAPD, MAPC, MAPTI, INT, SYNC, MOVALL, commandIn}
-use Rattle.arm_agreement.specs.Registers.{CTLR, CWRITER, CREADR}
+use Rattle.arm_agreement.specs.Registers.{CTLR, CWRITER, CREADR, BASER}
 use Rattle.arm_agreement.specs.Mappings.{Mappings, Announced, nothing, event-of, no-error, translation}
-use Rattle.arm_agreement.specs.Seen.{dev, ev, col, lpi, cpu, takes, armOf, held, stopped, Tables, announcedBy}
+use Rattle.arm_agreement.specs.Seen.{dev, ev, col, lpi, cpu, takes, armOf, held, tables-given, stopped, Tables, announcedBy}
 use Rattle.arm_agreement.specs.Ring.{arm-run}
 use Rattle.arm_agreement.specs.Runs.{doneBy, passed-by, unit-run, AllUnder, none-left, one-more}
 use Rattle.arm_agreement.proofs.AsArm.{fresh-as-arm}
@@ -60,6 +60,7 @@ example-under =
     (record {
       of-event = record { of-device = record { R17-announced = refl; R22-R23-in-the-table = refl }; R18-announced = refl };
       of-collection = record { R20-in-the-table = refl };
+      R48-collection-mapped = refl;
       R06-event-is-new = refl;
       S01-room = refl;
     })
@@ -70,13 +71,13 @@ example-as-arm = fresh-as-arm (withLimit 65535) all example example-under
 
 -- both translate it
 pub example-agrees : (translate (unit example) (dev 5) (ev 9) ≡ Delivered (delivery (lpi 8200) (cpu 1)))
-    × (translation true (arms example) 5 9 ≡ some (record { LPI = 8200; processor = 1 }))
+    × (translation true true (arms example) 5 9 ≡ some (record { LPI = 8200; processor = 1 }))
 unfolding shown
 example-agrees = (refl, refl)
 
 -- R01, the cause of the misfiled visits: device 5 is mapped again, and the unit still gives its old LPI where Arm's unit has none
 pub R01-departs : (translate (unit (example ++ MAPD 5 3 0x501000 true ∷ [])) (dev 5) (ev 9) ≡ Delivered (delivery (lpi 8200) (cpu 1)))
-    × (translation true (arms (example ++ MAPD 5 3 0x501000 true ∷ [])) 5 9 ≡ none)
+    × (translation true true (arms (example ++ MAPD 5 3 0x501000 true ∷ [])) 5 9 ≡ none)
 unfolding shown
 R01-departs = (refl, refl)
 
@@ -90,7 +91,7 @@ unfolding shown
 R02-departs = (refl, refl, refl, refl, refl)
 
 -- R03: the unit was never switched on
-pub R03-departs : (translate (unit example) (dev 5) (ev 9) ≡ Delivered (delivery (lpi 8200) (cpu 1))) × (translation false (arms example) 5 9 ≡ none)
+pub R03-departs : (translate (unit example) (dev 5) (ev 9) ≡ Delivered (delivery (lpi 8200) (cpu 1))) × (translation false true (arms example) 5 9 ≡ none)
 unfolding shown
 R03-departs = (refl, refl)
 
@@ -101,6 +102,45 @@ pub numbers-depart :
     × ((takes (unit []) (SYNC 7) ≡ true) × (no-error said nothing (SYNC 7) ≡ false))
 unfolding shown
 numbers-depart = ((refl, refl), (refl, refl), (refl, refl))
+
+-- and a message with such a number is translated
+abbrev beyond : List ArmCommand
+beyond = MAPD 65536 3 0 true ∷ MAPD 5 16 0 true ∷ MAPC 2 1 true ∷ MAPTI 65536 9 8200 2 ∷ MAPTI 5 65536 8201 2 ∷ []
+
+pub messages-beyond-depart :
+    ((translate (unit beyond) (dev 65536) (ev 9) ≡ Delivered (delivery (lpi 8200) (cpu 1))) × (translation true true (arms beyond) 65536 9 ≡ none))
+    × ((translate (unit beyond) (dev 5) (ev 65536) ≡ Delivered (delivery (lpi 8201) (cpu 1))) × (translation true true (arms beyond) 5 65536 ≡ none))
+unfolding shown
+messages-beyond-depart = ((refl, refl), (refl, refl))
+
+-- R10 is no departure: V 0 of what is not mapped is taken, and is no error
+pub R10-agrees : ((takes (unit []) (MAPD 5 3 0 false) ≡ true) × (no-error said nothing (MAPD 5 3 0 false) ≡ true))
+    × ((takes (unit []) (MAPC 2 1 false) ≡ true) × (no-error said nothing (MAPC 2 1 false) ≡ true))
+unfolding shown
+R10-agrees = ((refl, refl), (refl, refl))
+
+-- R48: (5, 9) is mapped before its collection, which Arm allows; a MAPC then makes it whole
+pub R48-departs : (takes (unit (MAPD 5 3 0 true ∷ [])) (MAPTI 5 9 8200 2) ≡ false) × (no-error said (arms (MAPD 5 3 0 true ∷ [])) (MAPTI 5 9 8200 2) ≡ true)
+    × (translation true true (arms (MAPD 5 3 0 true ∷ MAPTI 5 9 8200 2 ∷ [])) 5 9 ≡ none)
+    × (translation true true (arms (MAPD 5 3 0 true ∷ MAPTI 5 9 8200 2 ∷ MAPC 2 1 true ∷ [])) 5 9 ≡ some (record { LPI = 8200; processor = 1 }))
+unfolding shown
+R48-departs = (refl, refl, refl, refl)
+
+-- R46: the unit, switched off, is given another table of devices. It translates (5, 9) as before; by Arm the new table, which the driver has cleared, maps
+-- nothing
+abbrev moved : ItsState
+moved = after (unit example) GITS-BASER 8 0x8000000060000000
+
+pub R46-departs : (BASER·Physical-Address in-place held moved (BASER 0) ≡ 0x60000000) × (translate moved (dev 5) (ev 9) ≡ Delivered (delivery (lpi 8200) (cpu 1)))
+    × (translation true true nothing 5 9 ≡ none)
+unfolding shown
+R46-departs = (refl, refl, refl)
+
+-- R47: no table was given, and the message is translated
+pub R47-departs : (tables-given (unit example) ≡ false) × (translate (unit example) (dev 5) (ev 9) ≡ Delivered (delivery (lpi 8200) (cpu 1)))
+    × (translation true false (arms example) 5 9 ≡ none)
+unfolding shown
+R47-departs = (refl, refl, refl)
 
 -- R20, R22, R23: no table was offered
 pub tables-depart :

@@ -1,7 +1,7 @@
 -- The unit refuses a command exactly where Arm calls it an error, under the conditions of specs/Conditions.antt.
 -- Assumes nothing.
 use Prim.Native.Nat.{ℕ}
-use mathlib.Core.Path.{_≡_, refl, sym, _∙_}
+use mathlib.Core.Path.{_≡_, refl, sym, ap, _∙_}
 use mathlib.Core.Bool.{Bool, true, false, _&&_}
 use mathlib.Core.Option.{Option, none, some}
 use Rattle.model.specs.declared.ItsDevice.{ItsDevice}
@@ -35,11 +35,10 @@ two-checks true false r s = refl
 two-checks false true r s = refl
 two-checks false false r s = refl
 
--- a test that holds wherever something is found, as does what is asked of it
-and-found : {A : Type 0} (o : Option A) (f : A → Bool) (b : Bool) → ((a : A) → o ≡ some a → b ≡ true) → ((a : A) → o ≡ some a → f a ≡ true) →
-    (b && ifFound o f false) ≡ isFound o
-and-found none f b h k = cases b (λ e. rw e) (λ e. rw e)
-and-found (some a) f b h k = rw (h a refl, k a refl)
+-- a test that holds wherever something is found
+and-found : {A : Type 0} (o : Option A) (b : Bool) → ((a : A) → o ≡ some a → b ≡ true) → (b && isFound o) ≡ isFound o
+and-found none b h = cases b (λ e. rw e) (λ e. rw e)
+and-found (some a) b h = rw (h a refl)
 
 -- what is found of a thing that was found
 both-found : {A B C : Type 0} (o : Option A) (g : A → Option B) (f : A → B → C) → ((a : A) → o ≡ some a → isFound (g a) ≡ true) →
@@ -79,20 +78,20 @@ module _ (u : ItsState) (t : Tables) where
   announced-event : (d e : ℕ) → AnEvent u t d e → names-event said now d e ≡ eventFits u (dev d) (ev e)
   announced-event d e k = rw (k .of-device .R17-announced, k .of-device .R22-R23-in-the-table, k .R18-announced) (event-seen d e)
 
-  mapping : (d e l c : ℕ) → MapsEvent u t d e c → isAccepted (checkMapping u (dev d) (ev e) (lpi l) (col c)) ≡ (names-event said now d e && (is-LPI said now l && names-collection said now c))
+  mapping : (d e l c : ℕ) → MapsEvent u t d e c → isAccepted (checkMapping u (dev d) (ev e) (lpi l) (col c)) ≡ (names-event said now d e && (is-LPI said now l && said .collection-table c))
   unfolding checkMapping lpiInRange
   mapping d e l c k =
-      rw (announced-event d e (k .of-event), announced-collection c (k .of-collection), k .S01-room)
+      rw (announced-event d e (k .of-event), k .of-collection .R20-in-the-table, k .S01-room)
       (mapping-checks (is-LPI said now l) (deviceMapped u (dev d)) (eventFits u (dev d) (ev e)) (collectionMapped u (col c)) _ _ _ _
-      (fits-mapped (deviceOf u (dev d)) _))
+      (fits-mapped (deviceOf u (dev d)) _)
+      ∙ ap (λ b. eventFits u (dev d) (ev e) && (is-LPI said now l && b)) (sym (collection-seen c) ∙ k .R48-collection-mapped))
 
   module _ (kept : WellMapped now) where
-    -- an event that is mapped has its device, its Size and its collection
+    -- an event that is mapped has its device and its Size
     announced-interrupt : (d e : ℕ) → AnEvent u t d e → names-interrupt said now d e ≡ pairMapped u (dev d) (ev e)
     announced-interrupt d e k =
-        and-found (now .event d e) (λ x. isFound (now .collection (x .ICID))) (names-event said now d e)
+        and-found (now .event d e) (names-event said now d e)
         (λ x s. rw (k .of-device .R17-announced, k .of-device .R22-R23-in-the-table, k .R18-announced) (kept .R02-within-its-Size d e x s))
-        (kept .R09-in-a-collection d e)
         ∙ pair-seen d e
 
     -- and it translates
@@ -104,7 +103,7 @@ module _ (u : ItsState) (t : Tables) where
 
     pub errors-as-arm : (x : ArmCommand) → Under u t x → takes u x ≡ no-error said now x
     errors-as-arm (MAPD d size itt true) k = rw (k .S01-room, k .of-device .R17-announced, k .of-device .R22-R23-in-the-table, k .R18-announced)
-    errors-as-arm (MAPD d size itt false) k = rw (k .of-device .R17-announced, k .of-device .R22-R23-in-the-table)
+    errors-as-arm (MAPD d size itt false) k = rw (k .R17-announced, k .R22-R23-in-the-table)
     errors-as-arm (MAPC c p true) k = rw (k .S01-room, k .of-collection .R20-in-the-table) (one-check (listed (u .config) (cpu p)) _)
     errors-as-arm (MAPC c p false) k = rw (k .of-collection .R20-in-the-table)
     errors-as-arm (MAPTI d e l c) k = mapping d e l c k

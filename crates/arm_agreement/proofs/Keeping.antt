@@ -1,4 +1,5 @@
--- Arm's commands keep every mapped event within its device's Size and in a mapped collection, where Arm does not leave open what happens (R09).
+-- Arm's commands keep every mapped event within its device's Size and in a mapped collection, where Arm does not leave open what happens (R09) and
+-- no event is mapped before its collection (R48).
 -- So a unit that started fresh is such a one as long as the conditions are met.
 -- Assumes nothing.
 use Prim.Native.Nat.{ℕ}
@@ -12,7 +13,8 @@ use Rattle.model.specs.Choose.{whenFound, isFound}
 use Rattle.model.proofs.Cases.{cases, never, and-left, and-right}
 use Rattle.model.proofs.KeyLaws.{eqb-sym}
 use Rattle.arm_agreement.specs.Commands.{ArmCommand, MAPD, MAPC, MAPTI, MAPI, MOVI, INT, CLEAR, DISCARD, INV, INVALL, SYNC, MOVALL}
-use Rattle.arm_agreement.specs.Mappings.{Interrupt, interrupt, Mappings, Announced, with-device, with-collection, with-event, nothing, event-of, event-announced, device-announced, is-LPI, names-event, names-interrupt, no-error, does, nextMappings}
+use Rattle.arm_agreement.specs.Mappings.{Interrupt, interrupt, Mappings, Announced, with-device, with-collection, with-event, nothing}
+use Rattle.arm_agreement.specs.Mappings.{event-of, event-announced, device-announced, is-LPI, names-event, names-interrupt, no-error, does, nextMappings}
 use Rattle.arm_agreement.specs.Seen.{armOf, Tables, announcedBy}
 use Rattle.arm_agreement.specs.Conditions.{WellMapped, Under}
 
@@ -67,12 +69,12 @@ module _ (a : Announced) (m : Mappings) where
   named-interrupt : (d e : ℕ) → names-interrupt a m d e ≡ true → event-of m d e ≡ true
   named-interrupt d e h = named-event d e (and-left (names-event a m d e) _ h)
 
-  -- MAPTI and MAPI
-  mapped : (d e l c : ℕ) → (names-event a m d e && (is-LPI a m l && (a .collection-table c && isFound (m .collection c)))) ≡ true →
+  -- MAPTI and MAPI, of a mapped collection
+  mapped : (d e l c : ℕ) → (names-event a m d e && (is-LPI a m l && a .collection-table c)) ≡ true → isFound (m .collection c) ≡ true →
       (x : Interrupt) → some (interrupt l c) ≡ some x → Backed m d e x
-  mapped d e l c ok x h =
+  mapped d e l c ok there x h =
       let i : interrupt l c ≡ x = cc in
-      rw (← i) (named-event d e (and-left (names-event a m d e) _ ok), and-right (a .collection-table c) _ (and-right (is-LPI a m l) _ (and-right (names-event a m d e) _ ok)))
+      rw (← i) (named-event d e (and-left (names-event a m d e) _ ok), there)
 
   -- MOVI
   moved : (d e c : ℕ) → (names-interrupt a m d e && (a .collection-table c && isFound (m .collection c))) ≡ true →
@@ -94,8 +96,8 @@ module _ (u : ItsState) (t : Tables) (kept : WellMapped (armOf u)) where
   kept-does (MAPD d size itt false) k ok = kept-device now kept d none
   kept-does (MAPC c p true) k ok = kept-collection now kept c p
   kept-does (MAPC c p false) k ok = kept-without now kept c (k .R09-unused)
-  kept-does (MAPTI d e l c) k ok = kept-event now kept d e _ (mapped said now d e l c ok)
-  kept-does (MAPI d e c) k ok = kept-event now kept d e _ (mapped said now d e e c ok)
+  kept-does (MAPTI d e l c) k ok = kept-event now kept d e _ (mapped said now d e l c ok (k .R48-collection-mapped))
+  kept-does (MAPI d e c) k ok = kept-event now kept d e _ (mapped said now d e e c ok (k .R48-collection-mapped))
   kept-does (MOVI d e c) k ok = kept-event now kept d e _ (moved said now d e c ok (now .event d e))
   kept-does (INT d e) k ok = kept
   kept-does (CLEAR d e) k ok = kept

@@ -2,7 +2,7 @@
 -- Arm does: as long as each write met its conditions.
 -- Assumes nothing.
 use Prim.Native.Nat.{ℕ}
-use mathlib.Core.Path.{_≡_, refl, ap₂, _∙_}
+use mathlib.Core.Path.{_≡_, refl, ap, ap₂, _∙_}
 use mathlib.Core.Bool.{true}
 use Rattle.model.specs.declared.ItsConfig.{ItsConfig}
 use Rattle.model.specs.declared.ItsState.{ItsState}
@@ -11,7 +11,7 @@ use Rattle.model.specs.Config.{soundConfig, soundRing, soundUnit}
 use Rattle.model.specs.Entry.{configure, translate}
 use Rattle.model.proofs.Cases.{cases, never}
 use Rattle.arm_agreement.specs.Mappings.{Mappings, nothing, translation}
-use Rattle.arm_agreement.specs.Seen.{dev, ev, armOf, Tables}
+use Rattle.arm_agreement.specs.Seen.{dev, ev, armOf, tables-given, Tables}
 use Rattle.arm_agreement.specs.Conditions.{WellMapped}
 use Rattle.arm_agreement.specs.Runs.{Lived, configured, written, answered}
 use Rattle.arm_agreement.proofs.EveryWrite.{every-write}
@@ -41,10 +41,11 @@ life-as-arm k t _ _ (written {u} {m} l w row offset width value c) =
     let q = queue-as-arm t w row u offset width value (b .sound) (b .kept) c in
     record { config = e .config ∙ b .config; sound = e .sound; mappings = q .mappings ∙ rw (b .config, b .mappings); kept = q .kept }
 
--- EVERY MESSAGE to an enabled unit (R03)
-pub messages-as-arm : (k : ItsConfig) (t : Tables) (u : ItsState) (m : Mappings) → Lived k t u m → u .registers .enabled ≡ true → (d e : ℕ) →
-    translate u (dev d) (ev e) ≡ answered (translation true m d e)
-messages-as-arm k t u m l R03-enabled d e =
+-- EVERY MESSAGE to an enabled unit (R03) that was given its tables (R47)
+pub messages-as-arm : (k : ItsConfig) (t : Tables) (u : ItsState) (m : Mappings) → Lived k t u m → u .registers .enabled ≡ true → tables-given u ≡ true → (d e : ℕ) →
+    translate u (dev d) (ev e) ≡ answered (translation true true m d e)
+messages-as-arm k t u m l R03-enabled R47-tables-given d e =
     let b = life-as-arm k t u m l in
-    translation-as-arm u (record { S12-sound = b .sound; R03-enabled = R03-enabled }) (b .kept) d e
-    ∙ ap₂ (λ on x. answered (translation on x d e)) R03-enabled (b .mappings)
+    translation-as-arm u (record { S12-sound = b .sound; R03-enabled = R03-enabled; R47-tables-given = R47-tables-given }) (b .kept) d e
+    ∙ (ap₂ (λ on x. answered (translation on (tables-given u) x d e)) R03-enabled (b .mappings)
+    ∙ ap (λ given. answered (translation true given m d e)) R47-tables-given)

@@ -18,7 +18,7 @@ use Rattle.model.specs.Step.{collectionOf, translationOf, deliveryIn, actionTo,
 use Rattle.model.specs.Entry.{translate}
 use Rattle.model.proofs.Cases.{cases}
 use Rattle.arm_agreement.specs.Mappings.{Interrupt, interrupt, event-of, Target, target-of, translation}
-use Rattle.arm_agreement.specs.Seen.{dev, ev, col, lpi, cpu, armOf}
+use Rattle.arm_agreement.specs.Seen.{dev, ev, col, lpi, cpu, armOf, tables-given}
 use Rattle.arm_agreement.specs.Conditions.{WellMapped, Heard}
 use Rattle.arm_agreement.specs.Runs.{answered, signal}
 
@@ -53,10 +53,10 @@ as-answer none = refl
 as-answer (some a) = refl
 
 -- A MESSAGE
-pub translation-as-arm : (u : ItsState) → Heard u → WellMapped (armOf u) → (d e : ℕ) → translate u (dev d) (ev e) ≡ answered (translation (u .registers .enabled) (armOf u) d e)
+pub translation-as-arm : (u : ItsState) → Heard u → WellMapped (armOf u) → (d e : ℕ) → translate u (dev d) (ev e) ≡ answered (translation (u .registers .enabled) (tables-given u) (armOf u) d e)
 unfolding translate
 translation-as-arm u c kept d e =
-    rw (target-seen u d e, c .S12-sound, c .R03-enabled, within (event-of (armOf u) d e) (armOf u .event d e) _ (kept .R02-within-its-Size d e)) (as-answer (target-of (armOf u) d e))
+    rw (target-seen u d e, c .S12-sound, c .R03-enabled, c .R47-tables-given, within (event-of (armOf u) d e) (armOf u .event d e) _ (kept .R02-within-its-Size d e)) (as-answer (target-of (armOf u) d e))
 
 -- INT and CLEAR
 signalled : (pending : Bool) (o : Option Target) → listOf (whenFound (whenFound o (λ a. some (sent a))) (λ a. some (actionTo pending a))) ≡ listOf (whenFound o (λ a. some (signal pending a)))

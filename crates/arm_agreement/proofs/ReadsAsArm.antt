@@ -88,6 +88,14 @@ typer-fields b h =
       CIDbits = omega arith;
       CIL = omega arith;
       VMOVP = omega arith;
+      MPAM = omega arith;
+      VSGI = omega arith;
+      VMAPP = omega arith;
+      SVPET = omega arith;
+      nID = omega arith;
+      UMSI = omega arith;
+      UMSIirq = omega arith;
+      INV = omega arith;
     }
 
 -- the bits needed for a number from 2^b on and below 2^(b + 1)

@@ -7,7 +7,7 @@ use mathlib.Core.Path.{_≡_, refl, sym, ap, _∙_}
 use mathlib.Core.Bool.{true, false}
 use mathlib.Core.List.{List}
 use lib.ListN.{getD}
-use lib.Dec.{eqb}
+use lib.Dec.{eqb, ltb}
 use lib.Pow.{mod-pow-add}
 use lib.Seq.{getD-set-same, getD-set-other}
 use borrow.Author.Tests.{eqb-true, eqb-false, eq-eqb, lt-ltb, ltb-true}
@@ -148,14 +148,17 @@ module _ (w : Window) (row : List ItsAction) (u : ItsState) (c : Writable u row)
     CBASER-mappings = rw base-stored
 
   -- GITS_BASER n
-  module _ (n : ℕ) (p : Piece) (value : ℕ) (k : StoresTable u n) where
+  module _ (n : ℕ) (p : Piece) (value : ℕ) (k : StoresTable u n (stored-value u (BASER n) p value)) where
+    one-of-them : ltb n 8 ≡ true
+    one-of-them = let b = ltb-true n 2 (k .R25-has-a-type) in lt-ltb n 8 (omega arith)
+
     table-stored : unit-of (writing (BASER n) p value) ≡ withRegisters u (withBaser (u .registers) n (stored-value u (BASER n) p value))
     unfolding write toBaser
-    table-stored = rw (goes (BASER n) p value (k .one-of-them), k .R32-disabled)
+    table-stored = rw (goes (BASER n) p value one-of-them, k .R32-disabled)
 
     pub BASER-stored : StoresBASER n (held u) (held (unit-of (writing (BASER n) p value))) (stored-value u (BASER n) p value)
     BASER-stored =
-        let b = ltb-true n 8 (k .one-of-them) in
+        let b = ltb-true n 8 one-of-them in
         rw (table-stored)
         (record {
           fields = rw (getD-set-same (u .registers .basers) n _ 0 (omega (arith, k .S12-eight))) (baser-fields (held u (BASER n)) (stored-value u (BASER n) p value));

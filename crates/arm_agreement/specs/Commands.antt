@@ -1,4 +1,4 @@
--- Arm's commands and how four doublewords are read as one: by the digest's table of commands and the fields of Arm.antt alone.
+-- Arm's commands and how four doublewords are read as one: by docs/ARM.md's commands (F38 to F46) and the fields of Arm.antt alone.
 -- Assumes nothing.
 use Prim.Native.Nat.{ℕ}
 use mathlib.Core.Bool.{Bool}
@@ -8,7 +8,7 @@ use lib.Dec.{eqb}
 use Rattle.model.specs.Choose.{if_then_else_}
 use Rattle.model.specs.Arm.{bits, CommandField, dw, _from_, Opcode, DeviceID, EventID, Size, pINTID, ICID, ITT-addr, RDbase, «V», op-MOVI, op-INT, op-CLEAR, op-SYNC, op-MAPD, op-MAPC, op-MAPTI, op-MAPI, op-INV, op-INVALL, op-DISCARD}
 
--- A command with the numbers of its fields. The virtual ones (GICv4) are unknown to a unit whose TYPER.Virtual is 0.
+-- A command with the numbers of its fields. The virtual ones (GICv4) are unknown to a unit whose TYPER.Virtual is 0 (F11, F57).
 pub data ArmCommand : Type 0 where
   -- MAPD: DeviceID, Size, ITT_addr, V
   MAPD : ℕ → ℕ → ℕ → Bool → ArmCommand

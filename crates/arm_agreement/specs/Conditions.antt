@@ -10,14 +10,15 @@ use lib.ListN.{length}
 use lib.Dec.{leb, ltb, eqb}
 use Rattle.model.specs.declared.ItsState.{ItsState}
 use Rattle.model.specs.declared.ItsAction.{ItsAction}
+use Rattle.model.specs.declared.Register.the-variants.{Cbaser, Cwriter, Baser}
 use Rattle.model.specs.Choose.{isFound}
-use Rattle.model.specs.Arm.{bits, _of_, _from_, TYPER·ID-bits, TYPER·Devbits, CBASER·Valid, CWRITER·Retry, CWRITER·Offset, Opcode, RDbase, op-MAPC, command-size}
+use Rattle.model.specs.Arm.{bits, bit, _of_, _from_, TYPER·ID-bits, TYPER·Devbits, CBASER·Valid, BASER·Page-Size, CWRITER·Retry, CWRITER·Offset, Opcode, RDbase, op-MAPC, command-size}
 use Rattle.model.specs.Config.{queueBase, queueSize, listed, soundUnit}
-use Rattle.model.specs.Register.{typerValue}
+use Rattle.model.specs.Register.{registerAt, typerValue, valueWritten}
 use Rattle.model.specs.Step.{roomForDevice, roomForCollection, roomForPair}
 use Rattle.arm_agreement.specs.Commands.{ArmCommand, MAPD, MAPC, MAPTI, MAPI, MOVI, INT, CLEAR, DISCARD, INV, INVALL, SYNC, MOVALL, op-MOVALL}
 use Rattle.arm_agreement.specs.Mappings.{Interrupt, Mappings, event-of}
-use Rattle.arm_agreement.specs.Seen.{dev, ev, col, cpu, armOf, stopped, Tables}
+use Rattle.arm_agreement.specs.Seen.{dev, ev, col, cpu, armOf, tables-given, stopped, Tables}
 
 -- of decoding four doublewords
 pub record Decodable (ws : List ℕ) : Type 0 where
@@ -57,16 +58,10 @@ module _ (u : ItsState) (t : Tables) where
     pub of-device : ADevice d
     -- R18: more EventID bits than ID_bits are accepted
     pub R18-announced : leb size (TYPER·ID-bits of typerValue (u .config .«lpi_limit»)) ≡ true
-    -- R01: a device that is mapped again keeps its events
+    -- R01: a device that is mapped again keeps its events. (That the ITT was cleared is assumed here: F47, R26)
     pub R01-device-is-new : (e : ℕ) → armOf u .event d e ≡ none
     -- S01: at most 32 devices
     pub S01-room : roomForDevice u (dev d) ≡ true
-
-  -- MAPD, not valid
-  pub record DropsDevice (d : ℕ) : Type 0 where
-    pub of-device : ADevice d
-    -- R10: unmapping what is not mapped is accepted; Arm leaves it open
-    pub R10-mapped : isFound (armOf u .device d) ≡ true
 
   -- MAPC, valid
   pub record MapsCollection (c : ℕ) : Type 0 where
@@ -77,8 +72,6 @@ module _ (u : ItsState) (t : Tables) where
   -- MAPC, not valid
   pub record DropsCollection (c : ℕ) : Type 0 where
     pub of-collection : ACollection c
-    -- R10: unmapping what is not mapped is accepted; Arm leaves it open
-    pub R10-mapped : isFound (armOf u .collection c) ≡ true
     -- R09: unmapping a collection in use drops its events; Arm leaves it open
     pub R09-unused : (d e : ℕ) (x : Interrupt) → armOf u .event d e ≡ some x → eqb (x .ICID) c ≡ false
 
@@ -86,6 +79,8 @@ module _ (u : ItsState) (t : Tables) where
   pub record MapsEvent (d e c : ℕ) : Type 0 where
     pub of-event : AnEvent d e
     pub of-collection : ACollection c
+    -- R48: with a collection that is not mapped they are refused; by Arm they map the event, and its messages go nowhere until a MAPC
+    pub R48-collection-mapped : isFound (armOf u .collection c) ≡ true
     -- R06: a second MAPTI of an event replaces the first; Arm leaves it open
     pub R06-event-is-new : armOf u .event d e ≡ none
     -- S01: at most 256 events. R07: two events may have one LPI, and need no condition
@@ -104,7 +99,8 @@ module _ (u : ItsState) (t : Tables) where
   -- The conditions of a command. R04, DISCARD, and R35, INV and INVALL: what is waiting or cached is not part of the mappings.
   abbrev pub Under : ArmCommand → Type 0
   Under (MAPD d size itt true) = MapsDevice d size
-  Under (MAPD d size itt false) = DropsDevice d
+  -- R10: also of a device that is not mapped
+  Under (MAPD d size itt false) = ADevice d
   Under (MAPC c p true) = MapsCollection c
   Under (MAPC c p false) = DropsCollection c
   Under (MAPTI d e l c) = MapsEvent d e c
@@ -125,6 +121,8 @@ pub record Heard (u : ItsState) : Type 0 where
   pub S12-sound : soundUnit u ≡ true
   -- R03: a message is translated while the unit is switched off
   pub R03-enabled : u .registers .enabled ≡ true
+  -- R47: and while a table of devices or of collections is not given
+  pub R47-tables-given : tables-given u ≡ true
 
 -- of every write
 pub record Writable (u : ItsState) (row : List ItsAction) : Type 0 where
@@ -141,14 +139,19 @@ pub record StoresBase (u : ItsState) (value : ℕ) : Type 0 where
   pub R30-base : eqb (queueBase value) 0 ≡ false
   -- R29: CWRITER becomes 0 too
   pub R29-writer-at-0 : u .registers .cwriter ≡ 0
+  -- R31: reserved bits are kept
+  pub R31-no-reserved : (bits 9 8 of value ≡ 0) × (bit 52 of value ≡ 0) × (bits 58 56 of value ≡ 0) × (bit 62 of value ≡ 0)
 
--- of GITS_BASER n
-pub record StoresTable (u : ItsState) (n : ℕ) : Type 0 where
+-- of GITS_BASER n, with the value that it stores
+pub record StoresTable (u : ItsState) (n value : ℕ) : Type 0 where
   -- R32: writes are ignored while the unit is enabled; Arm leaves them open
   pub R32-disabled : u .registers .enabled ≡ false
   -- S12: the unit has its eight
   pub S12-eight : length (u .registers .basers) ≡ 8
-  pub one-of-them : ltb n 8 ≡ true
+  -- R25: those of Type 0, 2 to 7, keep what is written
+  pub R25-has-a-type : ltb n 2 ≡ true
+  -- R24: the reserved Page_Size is kept
+  pub R24-page-size : eqb (BASER·Page-Size of value) 3 ≡ false
 
 -- of GITS_CWRITER, with the value that it stores
 pub record StoresWriter (u : ItsState) (value : ℕ) : Type 0 where
@@ -159,6 +162,14 @@ pub record StoresWriter (u : ItsState) (value : ℕ) : Type 0 where
   -- R33: with reserved bits, or outside the ring, it is refused
   pub R33-no-reserved : bits 4 1 of value ≡ 0
   pub R33-in-the-ring : (CWRITER·Offset of value) * command-size < queueSize (u .registers .cbaser)
+
+-- of a write by offset, width and value: of the register to which it goes
+pub record AWrite (u : ItsState) (row : List ItsAction) (offset width value : ℕ) : Type 0 where
+  -- S03: with a shorter row it is refused
+  pub S03-row : leb (u .config .«command_budget») (length row) ≡ true
+  pub base : registerAt offset ≡ Cbaser → StoresBase u (valueWritten (u .config) (u .registers) offset width value Cbaser)
+  pub table : (n : ℕ) → registerAt offset ≡ Baser n → StoresTable u n (valueWritten (u .config) (u .registers) offset width value (Baser n))
+  pub writer : registerAt offset ≡ Cwriter → StoresWriter u (valueWritten (u .config) (u .registers) offset width value Cwriter)
 
 -- Of reads. The value of IIDR agrees as it stands (R41: of the fields only Implementer is not 0).
 

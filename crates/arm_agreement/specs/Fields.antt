@@ -26,6 +26,14 @@ use Rattle.model.specs.Arm.{
   TYPER·CIDbits,
   TYPER·CIL,
   TYPER·VMOVP,
+  TYPER·MPAM,
+  TYPER·VSGI,
+  TYPER·VMAPP,
+  TYPER·SVPET,
+  TYPER·nID,
+  TYPER·UMSI,
+  TYPER·UMSIirq,
+  TYPER·INV,
   CWRITER·Retry,
   CWRITER·Offset,
   CREADR·Stalled,
@@ -56,7 +64,7 @@ pub record ShowsIIDR (v : ℕ) : Type 0 where
   pub ProductID : IIDR·ProductID of v ≡ 0
 
 -- GITS_TYPER of a unit with physical LPIs only, ITT entries of so many bytes, so many bits of EventIDs and DeviceIDs; no system errors, RDbase a
--- processor number, no collections without a table, and 16-bit ICIDs
+-- processor number, no collections without a table, 16-bit ICIDs, and nothing of what came later (bit 38 and up)
 pub record ShowsTYPER (v entry-bytes event-bits device-bits : ℕ) : Type 0 where
   pub Physical : TYPER·Physical of v ≡ 1
   pub Virtual : TYPER·Virtual of v ≡ 0
@@ -70,6 +78,14 @@ pub record ShowsTYPER (v entry-bytes event-bits device-bits : ℕ) : Type 0 wher
   pub CIDbits : TYPER·CIDbits of v ≡ 0
   pub CIL : TYPER·CIL of v ≡ 0
   pub VMOVP : TYPER·VMOVP of v ≡ 0
+  pub MPAM : TYPER·MPAM of v ≡ 0
+  pub VSGI : TYPER·VSGI of v ≡ 0
+  pub VMAPP : TYPER·VMAPP of v ≡ 0
+  pub SVPET : TYPER·SVPET of v ≡ 0
+  pub nID : TYPER·nID of v ≡ 0
+  pub UMSI : TYPER·UMSI of v ≡ 0
+  pub UMSIirq : TYPER·UMSIirq of v ≡ 0
+  pub INV : TYPER·INV of v ≡ 0
 
 -- GITS_CWRITER at a place of the ring, in bytes
 pub record ShowsCWRITER (v place : ℕ) : Type 0 where

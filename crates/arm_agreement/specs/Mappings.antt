@@ -1,5 +1,5 @@
 -- Arm's mappings, without tables and sizes: what a command does to them, when a command is an error, when Arm leaves open what happens, and how
--- a message is translated. By the digest alone.
+-- a message is translated. By the facts of docs/ARM.md (F01 and on) alone.
 -- Assumes nothing.
 use Prim.Native.Nat.{ℕ, _+_, _^_}
 use mathlib.Core.Bool.{Bool, true, false, _&&_}
@@ -9,7 +9,7 @@ use Rattle.model.specs.Choose.{if_then_else_, whenFound, ifFound, isFound}
 use Rattle.model.specs.Arm.{_of_, TYPER·ID-bits, TYPER·Devbits, LPI-base}
 use Rattle.arm_agreement.specs.Commands.{ArmCommand, MAPD, MAPC, MAPTI, MAPI, MOVI, INT, CLEAR, DISCARD, INV, INVALL, SYNC, MOVALL}
 
--- what an ITT holds of a mapped event: its LPI and its collection
+-- what an ITT holds of a mapped event: its LPI and its collection (F32)
 pub record Interrupt : Type 0 where
   pub pINTID : ℕ
   pub ICID : ℕ
@@ -48,15 +48,15 @@ put n v f k = if eqb n k then v else f k
 abbrev pub nothing : Mappings
 nothing = record { device = λ d. none; collection = λ c. none; event = λ d e. none }
 
--- MAPD: the device has these EventID bits, or is gone; its events are those of a cleared ITT, or gone: it has none
+-- MAPD: the device has these EventID bits, or is gone; its events are those of an ITT that was cleared, as software is told to, or gone: it has none (F47, F48)
 abbrev pub with-device : ℕ → Option ℕ → Mappings → Mappings
 with-device d o m = record { device = put d o (m .device); collection = m .collection; event = put d (λ e. none) (m .event) }
 
--- MAPC: the collection has this processor, or is gone
+-- MAPC: the collection has this processor, or is gone (F49, F50)
 abbrev pub with-collection : ℕ → Option ℕ → Mappings → Mappings
 with-collection c o m = record { device = m .device; collection = put c o (m .collection); event = m .event }
 
--- MAPTI, MAPI, MOVI, DISCARD: the event has this interrupt, or none
+-- MAPTI, MAPI, MOVI, DISCARD: the event has this interrupt, or none (F51, F52, F54)
 abbrev pub with-event : ℕ → ℕ → Option Interrupt → Mappings → Mappings
 with-event d e o m = record { device = m .device; collection = m .collection; event = put d (put e o (m .event d)) (m .event) }
 
@@ -81,7 +81,7 @@ does (MOVALL p q) m = m
 abbrev pub event-of : Mappings → ℕ → ℕ → Bool
 event-of m d e = ifFound (m .device d) (λ size. ltb e (2 ^ size)) false
 
--- When a command is no error.
+-- When a command is no error (F60 to F67).
 module _ (a : Announced) (m : Mappings) where
   -- the DeviceID is within Devbits and the table
   abbrev pub device-announced : ℕ → Bool
@@ -103,18 +103,19 @@ module _ (a : Announced) (m : Mappings) where
   abbrev pub names-collection : ℕ → Bool
   names-collection c = a .collection-table c && isFound (m .collection c)
 
-  -- a mapped interrupt, of a mapped collection
+  -- a mapped interrupt, whether or not its collection is mapped
   abbrev pub names-interrupt : ℕ → ℕ → Bool
-  names-interrupt d e = names-event d e && ifFound (m .event d e) (λ x. isFound (m .collection (x .ICID))) false
+  names-interrupt d e = names-event d e && isFound (m .event d e)
 
-  -- of each command: none of the numbers, the device, the interrupt or the collection that it names is wrong
+  -- of each command: none of the numbers, the device, the interrupt or the collection that it names is wrong. MAPTI and MAPI may name a collection that
+  -- is not mapped; MAPD and MAPC with V 0 a device or a collection that is not
   abbrev pub no-error : ArmCommand → Bool
   no-error (MAPD d size itt true) = device-announced d && leb size (TYPER·ID-bits of a .TYPER)
   no-error (MAPD d size itt false) = device-announced d
   no-error (MAPC c p true) = a .collection-table c && a .processor p
   no-error (MAPC c p false) = a .collection-table c
-  no-error (MAPTI d e l c) = names-event d e && (is-LPI l && names-collection c)
-  no-error (MAPI d e c) = names-event d e && (is-LPI e && names-collection c)
+  no-error (MAPTI d e l c) = names-event d e && (is-LPI l && a .collection-table c)
+  no-error (MAPI d e c) = names-event d e && (is-LPI e && a .collection-table c)
   no-error (MOVI d e c) = names-interrupt d e && names-collection c
   no-error (INT d e) = names-interrupt d e
   no-error (CLEAR d e) = names-interrupt d e
@@ -124,11 +125,11 @@ module _ (a : Announced) (m : Mappings) where
   no-error (SYNC p) = a .processor p
   no-error (MOVALL p q) = a .processor p && a .processor q
 
--- The mappings after a command: an error changes none of them.
+-- The mappings after a command: an error changes none of them (F68).
 abbrev pub nextMappings : Announced → Mappings → ArmCommand → Mappings
 nextMappings a m x = if no-error a m x then does x m else m
 
--- A message is translated where the unit is enabled, and its device, its event and the event's collection are mapped: into what
+-- A message is translated where the unit is enabled and has its tables, and its device, its event and the event's collection are mapped (F36): into what
 pub record Target : Type 0 where
   pub LPI : ℕ
   pub processor : ℕ
@@ -140,6 +141,6 @@ target-of m d e =
     whenFound (m .collection (x .ICID)) (λ p.
     some (record { LPI = x .pINTID; processor = p })))
 
--- a message of an enabled unit, of an event within its device's Size
-abbrev pub translation : Bool → Mappings → ℕ → ℕ → Option Target
-translation Enabled m d e = if Enabled && event-of m d e then target-of m d e else none
+-- a message of an enabled unit whose tables of devices and of collections are given, of an event within its device's Size
+abbrev pub translation : Bool → Bool → Mappings → ℕ → ℕ → Option Target
+translation Enabled given m d e = if Enabled && (given && event-of m d e) then target-of m d e else none

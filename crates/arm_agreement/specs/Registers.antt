@@ -1,4 +1,4 @@
--- Arm's registers of the control frame: where an access to each may go, what it reads of the register and what it writes to it. By the digest
+-- Arm's registers of the control frame: where an access to each may go, what it reads of the register and what it writes to it. By the facts of docs/ARM.md
 -- and the fields of Arm.antt alone.
 -- Assumes nothing.
 use Prim.Native.Nat.{ℕ, _+_, _*_}
@@ -46,7 +46,7 @@ bytes CWRITER = 8
 bytes CREADR = 8
 bytes (BASER n) = 8
 
--- the accesses that there are: 64-bit registers take 64-bit accesses and 32-bit halves
+-- the accesses that there are: 64-bit registers take 64-bit accesses and 32-bit halves (F29, F30)
 abbrev pub has : Reg → Piece → Bool
 has CTLR whole = true
 has CTLR low = false

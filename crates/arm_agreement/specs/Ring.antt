@@ -1,4 +1,4 @@
--- Arm's ring, the commands that are fetched from it, and the mappings after several commands. By the digest alone.
+-- Arm's ring, the commands that are fetched from it, and the mappings after several commands. By the facts of docs/ARM.md alone.
 -- Assumes nothing.
 use Prim.Native.Nat.{ℕ, zero, suc, _+_, _*_, _%_}
 use mathlib.Core.Bool.{Bool, _&&_}
@@ -10,7 +10,7 @@ use Rattle.model.specs.Arm.{_of_, _in-place_, CBASER·Physical-Address, CBASER�
 use Rattle.arm_agreement.specs.Commands.{ArmCommand, commandIn}
 use Rattle.arm_agreement.specs.Mappings.{Mappings, Announced, nextMappings}
 
--- the n-th command from CREADR on stands at Physical_Address plus CREADR plus 32 n, round a ring of Size + 1 pages
+-- the n-th command from CREADR on stands at Physical_Address plus CREADR plus 32 n, round a ring of Size + 1 pages (F69)
 abbrev pub command-place : ℕ → ℕ → ℕ → ℕ
 command-place cbaser creadr n = CBASER·Physical-Address in-place cbaser + (creadr + command-size * n) % ((CBASER·Size of cbaser + 1) * page)
 
@@ -23,7 +23,7 @@ abbrev pub fetches : (ℕ → Option (List ℕ)) → ℕ → ℕ → ℕ → Lis
 fetches memory cbaser creadr zero = []
 fetches memory cbaser creadr (suc n) = listOf (fetched memory cbaser creadr n) ++ fetches memory cbaser creadr n
 
--- commands are fetched only if Enabled and CBASER.Valid are 1
+-- commands are fetched only if Enabled and CBASER.Valid are 1 (F14)
 abbrev pub fetches-if : Bool → (ℕ → Option (List ℕ)) → ℕ → ℕ → ℕ → List ArmCommand
 fetches-if enabled memory cbaser creadr n = if enabled && eqb (CBASER·Valid of cbaser) 1 then fetches memory cbaser creadr n else []
 

@@ -3,6 +3,7 @@
 use Prim.Native.Nat.{ℕ, _<_}
 use mathlib.Core.Path.{_≡_}
 use mathlib.Core.Bool.{Bool, true}
+use mathlib.Core.Logic.{_⊎_}
 use mathlib.Core.List.{List, [], _∷_}
 use mathlib.Core.Option.{Option, none, some}
 use Rattle.model.specs.declared.ItsConfig.{ItsConfig}
@@ -24,7 +25,7 @@ use Rattle.arm_agreement.specs.Commands.{ArmCommand}
 use Rattle.arm_agreement.specs.Mappings.{Mappings, nothing, Target}
 use Rattle.arm_agreement.specs.Ring.{command-place, fetches-if, arm-after}
 use Rattle.arm_agreement.specs.Seen.{lpi, cpu, asCommand, unit-after, armOf, Tables, announcedBy}
-use Rattle.arm_agreement.specs.Conditions.{Decodable, WellMapped, Under, ARing}
+use Rattle.arm_agreement.specs.Conditions.{Decodable, WellMapped, Under, AWrite, ARing}
 
 -- the unit after the commands, the first one first
 abbrev pub unit-run : ItsState → List ArmCommand → ItsState
@@ -75,6 +76,10 @@ module _ (t : Tables) (w : Window) (row : List ItsAction) (u : ItsState) (offset
 
   -- the conditions
   pub record WriteUnder : Type 0 where
+    -- of the register that is written
+    pub register : AWrite u row offset width value
+    -- R46: with other tables the unit keeps its mappings; by Arm they are those of the new tables. So a table is given before anything is mapped
+    pub R46-tables-stay : (armOf u ≡ nothing) ⊎ (stored .basers ≡ u .registers .basers)
     pub ring : ARing (stored .enabled) (u .registers .cbaser)
     pub decodable : AllDecodable w (u .registers) (doneBy after-it)
     pub commands : EachUnder t (withRegisters u stored) (passed-by w row u offset width value)

@@ -17,6 +17,7 @@ use Rattle.model.specs.declared.ItsConfig.{ItsConfig}
 use Rattle.model.specs.declared.ItsState.{ItsState}
 use Rattle.model.specs.declared.Register.{Register}
 use Rattle.model.specs.declared.Register.the-variants.{Ctlr, Iidr, Typer, Cbaser, Cwriter, Creadr, Baser}
+use Rattle.model.specs.Arm.{_of_, BASER·Valid}
 use Rattle.model.specs.Choose.{whenFound, ifFound}
 use Rattle.model.specs.Config.{listed}
 use Rattle.model.specs.Step.{deviceOf, collectionOf, translationOf, accepts, stepped}
@@ -95,6 +96,10 @@ asRegister (BASER n) = Baser n
 -- what the unit holds in one
 abbrev pub held : ItsState → Reg → ℕ
 held u r = valueOf (u .config) (u .registers) (asRegister r)
+
+-- the driver has given a table of devices and one of collections: BASER 0 and 1 are valid
+abbrev pub tables-given : ItsState → Bool
+tables-given u = eqb (BASER·Valid of held u (BASER 0)) 1 && eqb (BASER·Valid of held u (BASER 1)) 1
 
 -- the unit has stopped: it is enabled, and commands wait
 abbrev pub stopped : ItsState → Bool

@@ -12,7 +12,7 @@ pub record StoresCTLR (before after : Reg → ℕ) (v : ℕ) : Type 0 where
   pub same-CWRITER : after CWRITER ≡ before CWRITER
   pub same-BASER : (n : ℕ) → after (BASER n) ≡ before (BASER n)
 
--- GITS_CBASER: stored, and CREADR becomes 0; nothing is said of CWRITER, so it stays
+-- GITS_CBASER: stored, and CREADR becomes 0; nothing is said of CWRITER, and it is taken to stay (F15)
 pub record StoresCBASER (before after : Reg → ℕ) (v : ℕ) : Type 0 where
   pub stored : after CBASER ≡ v
   pub CREADR-0 : after CREADR ≡ 0
@@ -27,7 +27,7 @@ pub record StoresCWRITER (before after : Reg → ℕ) (v : ℕ) : Type 0 where
   pub same-CBASER : after CBASER ≡ before CBASER
   pub same-BASER : (n : ℕ) → after (BASER n) ≡ before (BASER n)
 
--- the fields of GITS_BASER that are read only
+-- the fields of GITS_BASER that are read only (F23)
 pub record ReadOnlyBASER (before after : ℕ) : Type 0 where
   pub Type-stays : BASER·Type of after ≡ BASER·Type of before
   pub Entry-Size-stays : BASER·Entry-Size of after ≡ BASER·Entry-Size of before
