@@ -28,7 +28,7 @@ uint64_t its_trace(const uint8_t *trace, size_t trace_length, uint8_t *output, s
  * The calls for hosts (libhost.a).
  *
  * A unit is 608 numbers that the host owns. The host copies and stores them as it likes, and looks into them if it wants to: which numbers mean
- * what stands in crates/lent_tables/specs/Unit.antt. Nothing is asked of them: whatever they are, each call answers. Numbers that are no sound
+ * what stands in crates/lent_tables/specs/Numbers.antt. Nothing is asked of them: whatever they are, each call answers. Numbers that are no sound
  * unit, all of them 0 for example, are refused with 1.
  *
  * The archive for a bare Arm machine uses the general registers only, so a trap handler need save no others for a call; memcpy, memmove and
