@@ -6,6 +6,10 @@ use model::ItsConfig;
 use model::ItsDeviceId;
 use model::ItsState;
 use text::Line;
+ghost use mathlib.Core.Path.{_≡_};
+ghost use Rattle.model.specs.Corners.{withLimit, fresh as freshOf};
+ghost use Rattle.its.specs.Contracts.{WritesLent};
+ghost use Rattle.showing.specs.Guest.{ringIn, setTo, enabledWith, exampleWith};
 
 // Where the ring begins: it is one page.
 const RING: u64 = 0x4000_0000;
@@ -58,7 +62,9 @@ pub fn put_example(page: &mut [u8; 4096]) {
 }
 
 // The configuration of the example, with any limit.
-pub fn config(limit: u32) -> ItsConfig {
+pub fn config(limit: u32) -> ItsConfig
+    ensures { λ r. ⌜ r ≡ withLimit limit ⌝ }
+{
     let zero = GicVcpuId(0);
     let one = GicVcpuId(1);
     let mut processors = [zero; 16];
@@ -72,7 +78,9 @@ pub fn config(limit: u32) -> ItsConfig {
     }
 }
 
-pub fn fresh(limit: u32) -> ItsState {
+pub fn fresh(limit: u32) -> ItsState
+    ensures { λ r. ⌜ r ≡ freshOf limit ⌝ }
+{
     let configured = its::configure(config(limit));
     let unit = configured.unit;
     unit
@@ -86,26 +94,34 @@ pub fn write(
     offset: u64,
     width: u8,
     value: u64,
-) -> WrittenRow {
+) -> WrittenRow
+    ensures { λ r. ⌜ WritesLent (ringIn (now (page .entry))) room unit offset width value r ⌝ }
+{
     its::write_lent(unit, RING, page, room, offset, width, value)
 }
 
 // A write whose answer is not shown.
-pub fn set(unit: ItsState, page: &[u8; 4096], offset: u64, width: u8, value: u64) -> ItsState {
+pub fn set(unit: ItsState, page: &[u8; 4096], offset: u64, width: u8, value: u64) -> ItsState
+    ensures { λ r. ⌜ r ≡ setTo (now (page .entry)) unit offset width value ⌝ }
+{
     let w = write(unit, page, 64, offset, width, value);
     let left = w.unit;
     left
 }
 
 // An enabled unit with its ring, before any command.
-pub fn enabled(page: &[u8; 4096], limit: u32) -> ItsState {
+pub fn enabled(page: &[u8; 4096], limit: u32) -> ItsState
+    ensures { λ r. ⌜ r ≡ enabledWith (now (page .entry)) limit ⌝ }
+{
     let unit = fresh(limit);
     let ringed = set(unit, page, CBASER, 8, 0x8000_0000_4000_0000);
     set(ringed, page, CTLR, 4, 1)
 }
 
 // The unit after the example.
-pub fn example(page: &[u8; 4096]) -> ItsState {
+pub fn example(page: &[u8; 4096]) -> ItsState
+    ensures { λ r. ⌜ r ≡ exampleWith (now (page .entry)) ⌝ }
+{
     let unit = enabled(page, 65535);
     set(unit, page, CWRITER, 8, 128)
 }
@@ -123,7 +139,9 @@ pub fn writes(
     offset: u64,
     value: u64,
     expected: Line,
-) -> ItsState {
+) -> ItsState
+    ensures { λ r. ⌜ r ≡ setTo (now (page .entry)) unit offset 8 value ⌝ }
+{
     let w = write(unit, page, 64, offset, 8, value);
     let answer = w.answer;
     let came = text::lines::of_write(answer);

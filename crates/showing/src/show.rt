@@ -1,8 +1,14 @@
 // A line for each corner: what it is, what came, and what is expected.
 use libc::STDOUT_FILENO;
 use text::Line;
+ghost use mathlib.Core.Path.{_≡_};
+ghost use mathlib.Core.List.{_∷_, []};
+ghost use Rattle.model.specs.Trace.{line as lineWith};
+ghost use Rattle.text.specs.Laying.{lineOf};
 
-pub fn rd(refusal: u64, value: u64) -> Line {
+pub fn rd(refusal: u64, value: u64) -> Line
+    ensures { λ r. ⌜ lineOf r ≡ lineWith "RD" (refusal ∷ value ∷ []) ⌝ }
+{
     Line {
         first: b'R',
         second: b'D',
@@ -11,7 +17,9 @@ pub fn rd(refusal: u64, value: u64) -> Line {
     }
 }
 
-pub fn wr(refusal: u64, opcode: u64, offset: u64, done: u64, actions: u64) -> Line {
+pub fn wr(refusal: u64, opcode: u64, offset: u64, done: u64, actions: u64) -> Line
+    ensures { λ r. ⌜ lineOf r ≡ lineWith "WR" (refusal ∷ opcode ∷ offset ∷ done ∷ actions ∷ []) ⌝ }
+{
     Line {
         first: b'W',
         second: b'R',
@@ -20,7 +28,9 @@ pub fn wr(refusal: u64, opcode: u64, offset: u64, done: u64, actions: u64) -> Li
     }
 }
 
-pub fn tr(refusal: u64, lpi: u64, processor: u64) -> Line {
+pub fn tr(refusal: u64, lpi: u64, processor: u64) -> Line
+    ensures { λ r. ⌜ lineOf r ≡ lineWith "TR" (refusal ∷ lpi ∷ processor ∷ []) ⌝ }
+{
     Line {
         first: b'T',
         second: b'R',
@@ -29,7 +39,9 @@ pub fn tr(refusal: u64, lpi: u64, processor: u64) -> Line {
     }
 }
 
-pub fn ac(processor: u64, lpi: u64, pending: u64) -> Line {
+pub fn ac(processor: u64, lpi: u64, pending: u64) -> Line
+    ensures { λ r. ⌜ lineOf r ≡ lineWith "AC" (processor ∷ lpi ∷ pending ∷ []) ⌝ }
+{
     Line {
         first: b'A',
         second: b'C',
@@ -38,7 +50,9 @@ pub fn ac(processor: u64, lpi: u64, pending: u64) -> Line {
     }
 }
 
-pub fn cf(refusal: u64) -> Line {
+pub fn cf(refusal: u64) -> Line
+    ensures { λ r. ⌜ lineOf r ≡ lineWith "CF" (refusal ∷ []) ⌝ }
+{
     Line {
         first: b'C',
         second: b'F',
@@ -48,7 +62,9 @@ pub fn cf(refusal: u64) -> Line {
 }
 
 // What a command carried out by itself came to: the number of its refusal.
-pub fn ex(refusal: u64) -> Line {
+pub fn ex(refusal: u64) -> Line
+    ensures { λ r. ⌜ lineOf r ≡ lineWith "EX" (refusal ∷ []) ⌝ }
+{
     Line {
         first: b'E',
         second: b'X',
@@ -58,7 +74,9 @@ pub fn ex(refusal: u64) -> Line {
 }
 
 // A record of a device: used, its number, its event bits.
-pub fn dv(used: u64, device: u64, bits: u64) -> Line {
+pub fn dv(used: u64, device: u64, bits: u64) -> Line
+    ensures { λ r. ⌜ lineOf r ≡ lineWith "DV" (used ∷ device ∷ bits ∷ []) ⌝ }
+{
     Line {
         first: b'D',
         second: b'V',
@@ -68,7 +86,9 @@ pub fn dv(used: u64, device: u64, bits: u64) -> Line {
 }
 
 // A record of a collection: used, its number, its processor.
-pub fn cl(used: u64, collection: u64, processor: u64) -> Line {
+pub fn cl(used: u64, collection: u64, processor: u64) -> Line
+    ensures { λ r. ⌜ lineOf r ≡ lineWith "CL" (used ∷ collection ∷ processor ∷ []) ⌝ }
+{
     Line {
         first: b'C',
         second: b'L',
@@ -78,7 +98,9 @@ pub fn cl(used: u64, collection: u64, processor: u64) -> Line {
 }
 
 // A record of a pair of device 5: used, its event, its LPI, its collection.
-pub fn pr(used: u64, event: u64, lpi: u64, collection: u64) -> Line {
+pub fn pr(used: u64, event: u64, lpi: u64, collection: u64) -> Line
+    ensures { λ r. ⌜ lineOf r ≡ lineWith "PR" (used ∷ event ∷ lpi ∷ collection ∷ []) ⌝ }
+{
     Line {
         first: b'P',
         second: b'R',
