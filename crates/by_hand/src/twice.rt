@@ -220,10 +220,10 @@ fn refused() {
         b"MAPTI (5, 16), which 8 bits would hold",
         unit,
         mapti(16, 8600, 3),
-        ex(7),
+        ex(23),
     );
     shows_pair(b"  pair in record 0", left, 0, pr(0, 0, 0, 0));
-    let stays = executes(b"MOVI (5, 9) to collection 30", unit, movi(30), ex(7));
+    let stays = executes(b"MOVI (5, 9) to collection 30", unit, movi(30), ex(24));
     shows_pairs(
         stays,
         pr(1, 9, 8300, 2),
@@ -266,7 +266,7 @@ fn discarded() {
     let left = executes(b"DISCARD (5, 9)", unit, discard(), ex(0));
     shows_pairs(left, pr(0, 0, 0, 0), pr(0, 0, 0, 0), pr(1, 1, 8500, 3));
     executes(b"  INT (5, 9) then", left, int(), ex(8));
-    executes(b"  DISCARD (5, 9) then", left, discard(), ex(7));
+    executes(b"  DISCARD (5, 9) then", left, discard(), ex(25));
 }
 
 fn device_dropped() {

@@ -203,7 +203,7 @@ fn collection_held_twice() {
         &page,
         CWRITER,
         192,
-        wr(7, 13, 160, 0, 0),
+        wr(24, 13, 160, 0, 0),
     );
 }
 
@@ -248,7 +248,7 @@ fn refused_write() {
     show(
         b"INT, CLEAR and then opcode 0E",
         text::lines::of_write(answer),
-        wr(7, 14, 192, 2, 0),
+        wr(20, 14, 192, 2, 0),
     );
     let first = row[0];
     show(

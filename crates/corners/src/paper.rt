@@ -1,6 +1,4 @@
 // Document 01, "Corners to hit".
-use model::Refusal;
-use model::WriteAnswer;
 use showing::guest::BASER;
 use showing::guest::CBASER;
 use showing::guest::CREADR;
@@ -14,7 +12,6 @@ use showing::guest::put_example;
 use showing::guest::reads;
 use showing::guest::set;
 use showing::guest::translates;
-use showing::guest::write;
 use showing::guest::writes;
 use showing::show::rd;
 use showing::show::tr;
@@ -161,7 +158,7 @@ fn four_bits() {
         &page,
         CWRITER,
         160,
-        wr(7, 10, 128, 0, 0),
+        wr(23, 10, 128, 0, 0),
     );
 }
 
@@ -198,7 +195,7 @@ fn lpi(what: &[u8], w1: u64, refusal: u64, opcode: u64, offset: u64, done: u64) 
 }
 
 fn limits() {
-    lpi(b"P10 MAPTI to LPI 8191", 0x1fff_0000_0001, 7, 10, 128, 0);
+    lpi(b"P10 MAPTI to LPI 8191", 0x1fff_0000_0001, 21, 10, 128, 0);
     lpi(b"P10 MAPTI to LPI 8192", 0x2000_0000_0001, 0, 0, 0, 1);
     lpi(
         b"P10 MAPTI to the limit, 65535",
@@ -211,7 +208,7 @@ fn limits() {
     lpi(
         b"P10 MAPTI to the limit + 1",
         0x1_0000_0000_0001,
-        7,
+        21,
         10,
         128,
         0,
@@ -239,7 +236,7 @@ fn second_mapd() {
         &page,
         CWRITER,
         192,
-        wr(7, 10, 160, 0, 0),
+        wr(23, 10, 160, 0, 0),
     );
 }
 
@@ -277,31 +274,8 @@ fn refused_after_int() {
         &page,
         CWRITER,
         192,
-        wr(7, 14, 160, 1, 0),
+        wr(20, 14, 160, 1, 0),
     );
-}
-
-// Whether a write was refused because the collection is not mapped.
-fn for_collection(answer: WriteAnswer) -> u64 {
-    match answer {
-        WriteAnswer::Taken {
-            done: _,
-            actions: _,
-        } => 0,
-        WriteAnswer::NotTaken {
-            refusal,
-            opcode: _,
-            offset: _,
-            done: _,
-        } => is_collection_unmapped(refusal),
-    }
-}
-
-fn is_collection_unmapped(refusal: Refusal) -> u64 {
-    match refusal {
-        Refusal::CollectionUnmapped => 1,
-        _ => 0,
-    }
 }
 
 // "Tempting and wrong", where the corners above do not show it.
@@ -310,7 +284,7 @@ pub fn tempting() {
     first_name();
 }
 
-// Either check gives 7; the reason in the answer tells which came first.
+// Neither the collection nor the pair is mapped: the number tells which was tested first.
 fn movi_order() {
     let mut page = [5u8; 4096];
     put_example(&mut page);
@@ -322,12 +296,8 @@ fn movi_order() {
         &page,
         CWRITER,
         160,
-        wr(7, 1, 128, 0, 0),
+        wr(24, 1, 128, 0, 0),
     );
-    let w = write(unit, &page, 64, CWRITER, 8, 160);
-    let answer = w.answer;
-    let reason = for_collection(answer);
-    showing::show::show(b"its reason is the collection", rd(0, reason), rd(0, 1));
 }
 
 // MAPC 3 to processor 0, MOVI (5, 9) to it, then the drop of collection 2 and that of 3.

@@ -1,5 +1,6 @@
 -- ALL THAT IS GUARANTEED holds.
 -- Assumes nothing.
+use Rattle.model.proofs.Numbers.{numbered, one-reason, folds, folded-only}
 use Rattle.guarantees.specs.Theorems.{Theorems}
 use Rattle.guarantees.proofs.InForce.{mappings-in-force, actions-given}
 use Rattle.guarantees.proofs.ByCalls.{led-by-calls, calls-in-force, call-actions-given}
@@ -10,7 +11,7 @@ use Rattle.guarantees.proofs.AsWrites.{lent-writes, call-writes}
 use Rattle.guarantees.proofs.Kept.{ring-kept, commands-kept}
 use Rattle.guarantees.proofs.Refused.{refusal-kept}
 use Rattle.guarantees.proofs.Follows.{ring-follows, commands-follow, refusal-follows}
-use Rattle.guarantees.proofs.Reasons.{seven}
+use Rattle.guarantees.proofs.Because.{refused-because, stops-because, reason-told}
 use Rattle.guarantees.proofs.Leaves.{read-leaves, translate-leaves}
 use Rattle.guarantees.proofs.Unsound.{unsound-answers-1, sound-never-1, no-unit-answers-1, refused-configuration}
 use Rattle.guarantees.proofs.Again.{tries-again}
@@ -37,7 +38,13 @@ theorems =
       ring-follows = ring-follows;
       commands-follow = commands-follow;
       refusal-follows = refusal-follows;
-      seven = seven;
+      numbered = numbered;
+      one-reason = one-reason;
+      folds = folds;
+      folded-only = folded-only;
+      refused-because = refused-because;
+      stops-because = stops-because;
+      reason-told = reason-told;
       read-leaves = read-leaves;
       translate-leaves = translate-leaves;
       unsound-answers-1 = unsound-answers-1;

@@ -27,12 +27,12 @@ use Rattle.model.specs.Queue.{Window}
 use Rattle.model.specs.Entry.{configure, read, translate}
 use Rattle.model.specs.Passed.{commandsPassed}
 use Rattle.model.proofs.Cases.{cases}
+use Rattle.model.proofs.Numbers.{one-reason, not-zero}
 use Rattle.its.specs.Contracts.{Reads, Translates}
 use Rattle.host.specs.Calls.{Tells, actionIn, numbersOfWrite, numbersOfTranslation}
 use Rattle.guarantees.specs.Actions.{passedTold, intsAndClears, ActionsOf, ActionsGiven, CallActionsGiven}
 use Rattle.guarantees.specs.MappingsInForce.{Led, begins, a-read, a-translation, a-write, MappingsInForce}
 use Rattle.guarantees.specs.CallsInForce.{LedByCalls, its-configure, its-read, its-translate, its-write, OfCallsTo, CallsInForce}
-use Rattle.guarantees.proofs.Reasons.{not-zero, one}
 use Rattle.guarantees.proofs.AsWrites.{call-writes}
 use Rattle.guarantees.proofs.InForce.{mappings-in-force, actions-given}
 
@@ -84,15 +84,15 @@ through f g = (λ a. g .0 (f .0 a), λ c. f .1 (g .1 c))
 -- what the number 1 says of an answer, and what the number 0 says of a write
 read-1 : (a : ReadAnswer) → readNumbers a .refusal ≡ 1 → a ≡ NoValue Unsound
 read-1 (Value v) h = absurd (omega arith)
-read-1 (NoValue why) h = ap NoValue (one why h)
+read-1 (NoValue why) h = ap NoValue (one-reason why Unsound h)
 
 translation-1 : (a : TranslateAnswer) → translateNumbers a .refusal ≡ 1 → a ≡ NotDelivered Unsound
 translation-1 (Delivered x) h = absurd (omega arith)
-translation-1 (NotDelivered why) h = ap NotDelivered (one why h)
+translation-1 (NotDelivered why) h = ap NotDelivered (one-reason why Unsound h)
 
 write-1 : (a : WriteAnswer) → writeNumbers a .refusal ≡ 1 → (opcode : ℕ) × (at : ℕ) × (done : ℕ) × (a ≡ NotTaken Unsound opcode at done)
 write-1 (Taken done actions) h = absurd (omega arith)
-write-1 (NotTaken why opcode at done) h = (opcode, at, done, ap (λ z. NotTaken z opcode at done) (one why h))
+write-1 (NotTaken why opcode at done) h = (opcode, at, done, ap (λ z. NotTaken z opcode at done) (one-reason why Unsound h))
 
 write-0 : (a : WriteAnswer) → writeNumbers a .refusal ≡ 0 → a ≡ Taken (writeNumbers a .done) (writeNumbers a .actions)
 write-0 (Taken done actions) h = refl

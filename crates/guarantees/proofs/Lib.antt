@@ -6,6 +6,7 @@ pub mod Remaining
 pub mod Stopped
 pub mod Kept
 pub mod Refused
+pub mod Because
 pub mod Leaves
 pub mod Unsound
 pub mod Follows

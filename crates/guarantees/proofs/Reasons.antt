@@ -2,7 +2,6 @@
 -- 3; a write before that with 1 or 10, and a sound unit not with 1.
 -- Assumes nothing.
 use Prim.Native.Nat.{ℕ}
-use native.Mathlib.Omega.{arith}
 use mathlib.Core.Path.{_≡_, refl, subst}
 use mathlib.Core.Bool.{Bool, true, false, not}
 use mathlib.Core.List.{List}
@@ -20,12 +19,11 @@ use Rattle.model.specs.declared.Command.the-variants.{Mapd, Mapc, Mapti, Mapi, 
 use Rattle.model.specs.declared.Decoded.{Decoded}
 use Rattle.model.specs.declared.Decoded.the-variants.{Known, Unknown}
 use Rattle.model.specs.declared.Refusal.{Refusal}
-use Rattle.model.specs.declared.Refusal.the-variants.{Unsound, RowTooShort, InvalidAccess, Identification, BaseZero, WriterRefused, BudgetExceeded, NotInWindow}
-use Rattle.model.specs.declared.Refusal.the-variants.{OpcodeUnknown, LpiOutOfRange, DeviceUnmapped, EventBeyondBits, CollectionUnmapped, PairUnmapped, ProcessorUnlisted, ResourceNotFound, TableFull, LineDoesNotFit}
+use Rattle.model.specs.declared.Refusal.the-variants.{Unsound, RowTooShort, InvalidAccess, Identification, NotInWindow}
+use Rattle.model.specs.declared.Refusal.the-variants.{LpiOutOfRange, DeviceUnmapped, EventBeyondBits, CollectionUnmapped, PairUnmapped, ProcessorUnlisted, ResourceNotFound, TableFull}
 use Rattle.model.specs.declared.Verdict.{Verdict}
 use Rattle.model.specs.declared.Verdict.the-variants.{Accepted, Refused}
 use Rattle.model.specs.Choose.{_or_then_, ifFound}
-use Rattle.model.specs.Refusal.{numberOf}
 use Rattle.model.specs.Arm.{isIdentification}
 use Rattle.model.specs.Keys.{eventAsLpi}
 use Rattle.model.specs.Config.{listed, soundUnit}
@@ -105,27 +103,6 @@ module _ (u : ItsState) where
       let there = commandAt w (commandAddress (u .registers) (u .registers .creadr)) in
       subst (Stays (ifFound there opcodeOf 0)) h (stays-words there)
 
--- the reasons with the number 7
-pub seven : (why : Refusal) → numberOf why ≡ 7 → (why ≡ WriterRefused) ⊎ (givenAt why ≡ at-command)
-seven Unsound h = absurd (omega arith)
-seven RowTooShort h = absurd (omega arith)
-seven InvalidAccess h = absurd (omega arith)
-seven Identification h = absurd (omega arith)
-seven BaseZero h = absurd (omega arith)
-seven WriterRefused h = inl refl
-seven BudgetExceeded h = absurd (omega arith)
-seven NotInWindow h = inr refl
-seven OpcodeUnknown h = inr refl
-seven LpiOutOfRange h = inr refl
-seven DeviceUnmapped h = inr refl
-seven EventBeyondBits h = inr refl
-seven CollectionUnmapped h = inr refl
-seven PairUnmapped h = inr refl
-seven ProcessorUnlisted h = inr refl
-seven ResourceNotFound h = inr refl
-seven TableFull h = inr refl
-seven LineDoesNotFit h = absurd (omega arith)
-
 -- An access.
 
 module _ (P : Refusal → Type 0) (two : P InvalidAccess) (three : P Identification) where
@@ -171,45 +148,3 @@ module _ (u : ItsState) (room offset width : ℕ) where
       rw sound
       (check-only NotOne (leb (u .config .«command_budget») room) RowTooShort _ (λ h. never true refl (cc))
       (access-only NotOne (λ h. never true refl (cc)) (λ h. never true refl (cc)) (u .config) offset width))
-
--- 0 is no refusal's number
-pub not-zero : (why : Refusal) → numberOf why ≡ 0 → ⊥
-not-zero Unsound h = omega arith
-not-zero RowTooShort h = omega arith
-not-zero InvalidAccess h = omega arith
-not-zero Identification h = omega arith
-not-zero BaseZero h = omega arith
-not-zero WriterRefused h = omega arith
-not-zero BudgetExceeded h = omega arith
-not-zero NotInWindow h = omega arith
-not-zero OpcodeUnknown h = omega arith
-not-zero LpiOutOfRange h = omega arith
-not-zero DeviceUnmapped h = omega arith
-not-zero EventBeyondBits h = omega arith
-not-zero CollectionUnmapped h = omega arith
-not-zero PairUnmapped h = omega arith
-not-zero ProcessorUnlisted h = omega arith
-not-zero ResourceNotFound h = omega arith
-not-zero TableFull h = omega arith
-not-zero LineDoesNotFit h = omega arith
-
--- the number 1 is that of one reason
-pub one : (why : Refusal) → numberOf why ≡ 1 → why ≡ Unsound
-one Unsound h = refl
-one RowTooShort h = absurd (omega arith)
-one InvalidAccess h = absurd (omega arith)
-one Identification h = absurd (omega arith)
-one BaseZero h = absurd (omega arith)
-one WriterRefused h = absurd (omega arith)
-one BudgetExceeded h = absurd (omega arith)
-one NotInWindow h = absurd (omega arith)
-one OpcodeUnknown h = absurd (omega arith)
-one LpiOutOfRange h = absurd (omega arith)
-one DeviceUnmapped h = absurd (omega arith)
-one EventBeyondBits h = absurd (omega arith)
-one CollectionUnmapped h = absurd (omega arith)
-one PairUnmapped h = absurd (omega arith)
-one ProcessorUnlisted h = absurd (omega arith)
-one ResourceNotFound h = absurd (omega arith)
-one TableFull h = absurd (omega arith)
-one LineDoesNotFit h = absurd (omega arith)

@@ -64,7 +64,7 @@ pub record StopsAt (w : Window) (s : RegisterWrite) (r : Written) (why : Refusal
 pub record RefusalKept (w : Window) (u : ItsState) (offset width value : ℕ) (s : RegisterWrite) (r : Written) : Type 0 where
   -- 1, 10, 2, 3, 4: the unit is unchanged; opcode, offset and done are 0
   pub before-all : (why : Refusal) → givenAt why ≡ at-entry → IfRefused r why (λ opcode at done. r ≡ record { unit = u; answer = NotTaken why 0 0 0 })
-  -- 7 at CWRITER: the same, but the offset is the refused writer
+  -- 7, of CWRITER: the same, but the offset is the refused writer
   pub writer : IfRefused r WriterRefused (λ opcode at done.
       (registerAt offset ≡ Cwriter) × (r ≡ record { unit = u; answer = NotTaken WriterRefused 0 (writerOf u offset width value) 0 }))
   -- 5 is tested once, before any command: where more wait than the budget, that is the answer; the offset is CREADR, and nothing is done
@@ -73,7 +73,7 @@ pub record RefusalKept (w : Window) (u : ItsState) (offset width value : ℕ) (s
   -- and 5 is answered only then
   pub only-then : IfRefused r BudgetExceeded (λ opcode at done.
       (s .runs ≡ true) × (s .registers .enabled ≡ true) × (u .config .«command_budget» < waiting (s .registers)))
-  -- 6, 7, 8, 9 of a command
+  -- 20 to 26, 6, 8 and 9: of a command
   pub at-a-command : (why : Refusal) → givenAt why ≡ at-command → IfRefused r why (λ opcode at done. StopsAt w s r why opcode at)
   -- 11 is the C call's: no write answers it
   pub never-11 : IfRefused r LineDoesNotFit (λ opcode at done. ⊥)

@@ -1,6 +1,7 @@
 pub mod Firm
 pub mod Actions
 pub mod Refusals
+pub mod Reasons
 pub mod Kept
 pub mod Follows
 pub mod MappingsInForce

@@ -51,6 +51,7 @@ givenAt Identification = at-entry
 givenAt BaseZero = at-entry
 -- 7
 givenAt WriterRefused = at-cwriter
+-- 20 to 26 (02, A1), in the place of 01's 7 of a command
 givenAt OpcodeUnknown = at-command
 givenAt LpiOutOfRange = at-command
 givenAt DeviceUnmapped = at-command

@@ -1,11 +1,11 @@
 -- ALL THAT IS GUARANTEED of the public entries, in one place: each field is a theorem over their contracts (crates/its/specs/Contracts.antt,
 -- crates/host/specs/Calls.antt), for all inputs. What a theorem concludes is said in the file that it is taken from. proofs/All.antt holds them all.
 -- Assumes nothing.
-use Prim.Native.Nat.{ℕ}
+use Prim.Native.Nat.{ℕ, _≤_}
 use mathlib.Core.Path.{_≡_}
 use mathlib.Core.Bool.{true, false}
-use mathlib.Core.List.{List, _++_, map}
-use mathlib.Core.Logic.{_⊎_}
+use mathlib.Core.List.{List, [], _∷_, _++_, map}
+use mathlib.Core.Logic.{_⊎_, _↔_}
 use lib.ListN.{take, drop}
 use Rattle.model.specs.declared.ItsDeviceId.{ItsDeviceId}
 use Rattle.model.specs.declared.EventId.{EventId}
@@ -22,9 +22,10 @@ use Rattle.model.specs.declared.WriteAnswer.the-variants.{NotTaken}
 use Rattle.model.specs.declared.TranslateAnswer.{TranslateAnswer}
 use Rattle.model.specs.declared.Configured.{Configured}
 use Rattle.model.specs.declared.Written.{Written}
-use Rattle.model.specs.Refusal.{numberOf}
+use Rattle.model.specs.Refusal.{numberOf, reasons, numberIn01, folded}
 use Rattle.model.specs.Config.{soundUnit}
-use Rattle.model.specs.Queue.{Window}
+use Rattle.model.specs.Step.{check}
+use Rattle.model.specs.Queue.{Window, stays, turn}
 use Rattle.model.specs.Entry.{stores}
 use Rattle.model.specs.Trace.{lentRow}
 use Rattle.its.specs.declared.WrittenRow.{WrittenRow}
@@ -32,7 +33,8 @@ use Rattle.its.specs.Contracts.{NoUnit, Configures, Reads, Writes, WritesLent, 
 use Rattle.host.specs.Calls.{Tells, numbersOfWrite, actionIn, CallWrites}
 use Rattle.guarantees.specs.Firm.{Answered, Firm, OfEveryEntry}
 use Rattle.guarantees.specs.Actions.{ActionsOf, ActionsGiven, CallActionsGiven}
-use Rattle.guarantees.specs.Refusals.{at-command, givenAt, ReadLeaves, TranslateLeaves, AnswersOne, NeverOne}
+use Rattle.guarantees.specs.Refusals.{at-command, givenAt, IfRefused, ReadLeaves, TranslateLeaves, AnswersOne, NeverOne}
+use Rattle.guarantees.specs.Reasons.{Because, Told}
 use Rattle.guarantees.specs.Kept.{RingKept, CommandsKept, RefusalKept}
 use Rattle.guarantees.specs.Follows.{RingFollows, CommandsFollow, RefusalFollows}
 use Rattle.guarantees.specs.MappingsInForce.{Led, OfWritesTo, MappingsInForce}
@@ -86,8 +88,21 @@ pub record Theorems : Type 0 where
       (kept : CommandsKept w row u (stores row u offset width value) r left) → CommandsFollow w row u (stores row u offset width value) r left kept)
   -- of a refusal, on every unit
   pub refusal-follows : OfEveryWrite (λ w row u offset width value r left. RefusalFollows w row u (stores row u offset width value) r left)
-  -- 7 is CWRITER's or a command's
-  pub seven : (why : Refusal) → numberOf why ≡ 7 → (why ≡ WriterRefused) ⊎ (givenAt why ≡ at-command)
+  -- WHAT A NUMBER TELLS (02, A1). 20 to 26 are a command's seven reasons, in A1's order, and 7 is CWRITER's
+  pub numbered : (map numberOf reasons ≡ 20 ∷ 21 ∷ 22 ∷ 23 ∷ 24 ∷ 25 ∷ 26 ∷ []) × (numberOf WriterRefused ≡ 7)
+  -- and no other refusal's: two with one number are one
+  pub one-reason : (a b : Refusal) → numberOf a ≡ numberOf b → a ≡ b
+  -- folded, each refusal has 01's number
+  pub folds : (why : Refusal) → folded (numberOf why) ≡ numberIn01 why
+  -- and nothing but 20 to 26 is folded
+  pub folded-only : (n : ℕ) → (folded n ≡ n) ⊎ ((20 ≤ n) × ((n ≤ 26) × (folded n ≡ 7)))
+  -- a unit refuses a command for a reason exactly if what the reason says holds (Reasons)
+  pub refused-because : (u : ItsState) (x : Command) (why : Refusal) → (check u x ≡ Refused why) ↔ Because u x why
+  -- the command on which CREADR stands is refused for a reason, and with an opcode told, exactly if these are its own
+  pub stops-because : (w : Window) (u : ItsState) (why : Refusal) (opcode : ℕ) → (turn w u ≡ stays why opcode) ↔ Told w u why opcode
+  -- and a write that is refused at a command tells those of the one on which CREADR stands, in the unit that is left
+  pub reason-told : OfEveryWrite (λ w row u offset width value r left.
+      (why : Refusal) → givenAt why ≡ at-command → IfRefused r why (λ opcode at done. Told w (r .unit) why opcode))
   -- what a refused read leaves (Refusals)
   pub read-leaves : (u : ItsState) (offset width : ℕ) (r : ReadAnswer) → Reads u offset width r → ReadLeaves r
   -- what a refused translation leaves (Refusals)

@@ -11,18 +11,14 @@ use Rattle.model.specs.declared.EventId.{EventId}
 use Rattle.model.specs.declared.CollectionId.{CollectionId}
 use Rattle.model.specs.declared.Command.{Command}
 use Rattle.model.specs.declared.Command.the-variants.{Mapc, Movi, Discard}
-use Rattle.model.specs.declared.Refusal.the-variants.{CollectionUnmapped}
-use Rattle.model.specs.declared.Verdict.the-variants.{Refused}
 use Rattle.model.specs.declared.WriteAnswer.{WriteAnswer}
 use Rattle.model.specs.declared.WriteAnswer.the-variants.{Taken, NotTaken}
 use Rattle.model.specs.Refusal.{writeNumbers}
-use Rattle.model.specs.Step.{check}
 use Rattle.model.specs.History.{partIn, pairNow}
-use Rattle.model.specs.Met.{unitAfter}
 use Rattle.model.specs.Text.{ascii}
 use Rattle.model.specs.Trace.{fitting, outputAfter, returned}
 use Rattle.model.specs.Example.{exampleTrace}
-use Rattle.model.specs.Corners.{withLimit, mapc, exampleMet, given}
+use Rattle.model.specs.Corners.{mapc, exampleMet, given}
 use Rattle.model.proofs.Computed.{shown}
 
 abbrev dev : ItsDeviceId
@@ -41,11 +37,6 @@ three = record { 0 = 3 }
 pub nothing-with-a-refusal : (a : WriteAnswer) → (writeNumbers a .refusal ≡ 0) ⊎ (writeNumbers a .actions ≡ 0)
 nothing-with-a-refusal (Taken done actions) = inl refl
 nothing-with-a-refusal (NotTaken r opcode offset done) = inr refl
-
--- MOVI: collection mapped, then pair mapped. Here neither is
-pub movi-order : check (unitAfter (withLimit 65535) exampleMet) (Movi dev (record { 0 = 8 }) three) ≡ Refused CollectionUnmapped
-unfolding shown
-movi-order = refl
 
 -- an invalid MAPC ends the pairs of its collection: they do not come back with it
 pub mapc-ends : given (mapc ∷ Mapc two (record { 0 = 1 }) false ∷ exampleMet) ≡ 0

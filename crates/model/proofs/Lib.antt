@@ -1,6 +1,7 @@
 pub mod Computed
 pub mod Example
 pub mod Corners
+pub mod Numbers
 pub mod Cases
 pub mod TableLaws
 pub mod TableLoops

@@ -1,4 +1,5 @@
--- Document 01, "Corners to hit": those marked P, as a single table. proofs/Corners.antt proves that every line of it holds.
+-- Document 01, "Corners to hit": those marked P, as a single table; and tables for document 02, A1: what each number of a refused command is given for,
+-- and which is given where several could be (20: Example.cornerLines). proofs/Corners.antt proves that every line of each holds.
 -- Assumes nothing.
 use Prim.Native.Nat.{ℕ, _*_}
 use mathlib.Core.Bool.{Bool, true, false, _&&_}
@@ -9,7 +10,7 @@ use Rattle.model.specs.declared.ItsConfig.{ItsConfig}
 use Rattle.model.specs.declared.ItsState.{ItsState}
 use Rattle.model.specs.declared.Written.{Written}
 use Rattle.model.specs.declared.Command.{Command}
-use Rattle.model.specs.declared.Command.the-variants.{Mapd, Mapc, Mapti, Int}
+use Rattle.model.specs.declared.Command.the-variants.{Mapd, Mapc, Mapti, Mapi, Movi, Int, Clear, Discard, Inv, Invall}
 use Rattle.model.specs.Arm.{GITS-TYPER, GITS-CBASER, GITS-CWRITER, GITS-BASER}
 use Rattle.model.specs.Refusal.{verdictNumber, readNumbers, writeNumbers, translateNumbers}
 use Rattle.model.specs.Config.{queueSize, freshRegisters}
@@ -101,16 +102,79 @@ corners =
     ∷ corner 8 (reads (writing (fresh 65535) GITS-BASER 0xFFFFFFFFFFFFFFFF .unit) GITS-BASER 8 0xF9E7FFFFFFFFFFFF)
     -- 4 bits: event 15 yes, 16 refused; 32 bits: 0xFFFFFFFF yes
     ∷ corner 9 (eqb (becomes (mapc ∷ mapd 4 ∷ []) (mapti 15 8200)) 0)
-    ∷ corner 9 (eqb (becomes (mapc ∷ mapd 4 ∷ []) (mapti 16 8200)) 7)
+    ∷ corner 9 (eqb (becomes (mapc ∷ mapd 4 ∷ []) (mapti 16 8200)) 23)
     ∷ corner 9 (eqb (becomes (mapc ∷ mapd 32 ∷ []) (mapti 0xFFFFFFFF 8200)) 0)
     -- LPI 8191 refused, 8192 and limit accepted, limit + 1 refused
-    ∷ corner 10 (eqb (becomes (mapc ∷ mapd 4 ∷ []) (mapti 0 8191)) 7)
+    ∷ corner 10 (eqb (becomes (mapc ∷ mapd 4 ∷ []) (mapti 0 8191)) 21)
     ∷ corner 10 (eqb (becomes (mapc ∷ mapd 4 ∷ []) (mapti 0 8192)) 0)
     ∷ corner 10 (eqb (becomes (mapc ∷ mapd 4 ∷ []) (mapti 0 65535)) 0)
-    ∷ corner 10 (eqb (becomes (mapc ∷ mapd 4 ∷ []) (mapti 0 65536)) 7)
+    ∷ corner 10 (eqb (becomes (mapc ∷ mapd 4 ∷ []) (mapti 0 65536)) 21)
     -- after the example, MAPD 5 valid with 1 bit: (5, 9) still gives 8200; a new MAPTI of it is refused
     ∷ corner 11 (eqb (given (mapd 1 ∷ exampleMet)) 8200)
-    ∷ corner 11 (eqb (becomes (mapd 1 ∷ exampleMet) (mapti 9 8200)) 7)
+    ∷ corner 11 (eqb (becomes (mapd 1 ∷ exampleMet) (mapti 9 8200)) 23)
+    ∷ []
+
+-- MAPI of device 5 and an event, in collection 2
+abbrev pub mapi : ℕ → Command
+mapi event = Mapi (record { 0 = 5 }) (record { 0 = event }) (record { 0 = 2 })
+
+-- MOVI of device 5 and an event to a collection
+abbrev pub movi : ℕ → ℕ → Command
+movi event collection = Movi (record { 0 = 5 }) (record { 0 = event }) (record { 0 = collection })
+
+-- a line of the other tables: after the commands xs, the last one first, x has this number
+abbrev pub told : ℕ → List Command → Command → Corner
+told n xs x = corner n (eqb (becomes xs x) n)
+
+-- MAPTI's four checks in order: LPI, device, event, collection. First all of them fail; then the first to fail is mended, one by one
+unfoldable pub ofMapti : List Corner
+ofMapti =
+    told 21 [] (mapti 16 8191)
+    ∷ told 22 [] (mapti 16 8192)
+    ∷ told 23 (mapd 4 ∷ []) (mapti 16 8192)
+    ∷ told 24 (mapd 4 ∷ []) (mapti 15 8192)
+    ∷ told 0 (mapc ∷ mapd 4 ∷ []) (mapti 15 8192)
+    -- the LPI and one other alone; the device alone
+    ∷ told 21 (mapc ∷ []) (mapti 15 65536)
+    ∷ told 21 (mapc ∷ mapd 4 ∷ []) (mapti 16 65536)
+    ∷ told 21 (mapd 4 ∷ []) (mapti 15 65536)
+    ∷ told 22 (mapc ∷ []) (mapti 15 65535)
+    ∷ []
+
+-- the same of MAPI, whose LPI is its event
+unfoldable pub ofMapi : List Corner
+ofMapi =
+    told 21 [] (mapi 8191)
+    ∷ told 22 [] (mapi 8192)
+    ∷ told 23 (mapd 13 ∷ []) (mapi 8192)
+    ∷ told 24 (mapd 14 ∷ []) (mapi 8192)
+    ∷ told 0 (mapc ∷ mapd 14 ∷ []) (mapi 8192)
+    ∷ told 21 (mapc ∷ mapd 12 ∷ []) (mapi 8191)
+    ∷ []
+
+-- MOVI: collection, then pair. Neither is mapped; the collection alone is not; the pair alone is not
+unfoldable pub ofMovi : List Corner
+ofMovi =
+    told 24 exampleMet (movi 8 3)
+    ∷ told 24 exampleMet (movi 9 3)
+    ∷ told 25 exampleMet (movi 8 2)
+    ∷ told 0 exampleMet (movi 9 2)
+    ∷ []
+
+-- the commands with one check: DISCARD, INV, INVALL and MAPC
+unfoldable pub ofOthers : List Corner
+ofOthers =
+    told 25 exampleMet (Discard (record { 0 = 5 }) (record { 0 = 8 }))
+    ∷ told 25 exampleMet (Inv (record { 0 = 5 }) (record { 0 = 8 }))
+    ∷ told 24 exampleMet (Invall (record { 0 = 3 }))
+    ∷ told 26 exampleMet (Mapc (record { 0 = 2 }) (record { 0 = 2 }) true)
+    ∷ []
+
+-- INT and CLEAR of a pair that is not mapped stay 8
+unfoldable pub eightStays : List Corner
+eightStays =
+    told 8 exampleMet (Int (record { 0 = 5 }) (record { 0 = 8 }))
+    ∷ told 8 exampleMet (Clear (record { 0 = 5 }) (record { 0 = 8 }))
     ∷ []
 
 -- every line of a table holds

@@ -62,6 +62,6 @@ cornerTrace =
     ++ (((ascii "GM" ++ bytesOf 8 0x40000080) ++ (bytesOf 4 64 ++ words (0x500000003 ∷ 9 ∷ 0 ∷ 0 ∷ 0x0E ∷ 0 ∷ 0 ∷ 0 ∷ [])))
     ++ WRs 0x88 8 192)
 
--- gives refusal 7, opcode 14, offset 160, done 1, actions 0
+-- gives refusal 20 (02, A1, for 01's 7), opcode 14, offset 160, done 1, actions 0
 unfoldable pub cornerLines : List ℕ
-cornerLines = exampleLines ++ ascii "GM 0\nWR 7 14 160 1 0\n"
+cornerLines = exampleLines ++ ascii "GM 0\nWR 20 14 160 1 0\n"

@@ -80,7 +80,7 @@ abbrev pub turnOn : ItsState → ℕ → Decoded → Turn
 turnOn u opcode (Known x) = judged (check u x) x opcode
 turnOn u opcode (Unknown n) = stays OpcodeUnknown opcode
 
--- each command in turn: 6, its own checks (7 or 8), 9 last
+-- each command in turn: 6, its own checks (20 to 26, or 8), 9 last
 unfoldable pub turn : Window → ItsState → Turn
 turn w u =
     ifFound (commandAt w (commandAddress (u .registers) (u .registers .creadr)))

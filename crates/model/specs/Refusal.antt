@@ -1,6 +1,10 @@
--- Document 01, "Refusal numbers": the number of each refusal, and for each answer that is an enum the paper's number and values in every case.
+-- Document 01, "Refusal numbers", and document 02, A1: the number of each refusal, and for each answer that is an enum the paper's number and values in
+-- every case.
 -- Assumes nothing.
 use Prim.Native.Nat.{ℕ}
+use mathlib.Core.Bool.{_&&_}
+use mathlib.Core.List.{List, [], _∷_}
+use lib.Dec.{leb}
 use Rattle.model.specs.declared.Refusal.{Refusal}
 use Rattle.model.specs.declared.Refusal.the-variants.{
   Unsound,
@@ -32,6 +36,7 @@ use Rattle.model.specs.declared.WriteAnswer.{WriteAnswer}
 use Rattle.model.specs.declared.WriteAnswer.the-variants.{Taken, NotTaken}
 use Rattle.model.specs.declared.TranslateAnswer.{TranslateAnswer}
 use Rattle.model.specs.declared.TranslateAnswer.the-variants.{Delivered, NotDelivered}
+use Rattle.model.specs.Choose.{if_then_else_}
 
 -- the number of a refusal
 abbrev pub numberOf : Refusal → ℕ
@@ -51,20 +56,56 @@ numberOf WriterRefused = 7
 numberOf BudgetExceeded = 5
 -- command not in the window
 numberOf NotInWindow = 6
--- a command refused: one reason each, and one number for all of them
-numberOf OpcodeUnknown = 7
-numberOf LpiOutOfRange = 7
-numberOf DeviceUnmapped = 7
-numberOf EventBeyondBits = 7
-numberOf CollectionUnmapped = 7
-numberOf PairUnmapped = 7
-numberOf ProcessorUnlisted = 7
+-- a command refused, in place of 01's 7 (02, A1): opcode unknown
+numberOf OpcodeUnknown = 20
+-- LPI out of range
+numberOf LpiOutOfRange = 21
+-- device unmapped
+numberOf DeviceUnmapped = 22
+-- event beyond the device's bits
+numberOf EventBeyondBits = 23
+-- collection unmapped
+numberOf CollectionUnmapped = 24
+-- pair unmapped
+numberOf PairUnmapped = 25
+-- processor not listed
+numberOf ProcessorUnlisted = 26
 -- pair or its collection not mapped: translate, INT, CLEAR
 numberOf ResourceNotFound = 8
 -- command needs a new record and its table is full
 numberOf TableFull = 9
 -- C call: a line doesn't fit
 numberOf LineDoesNotFit = 11
+
+-- the reasons for which a command fails its own checks, in the order in which A1 names them
+abbrev pub reasons : List Refusal
+reasons =
+    OpcodeUnknown ∷ LpiOutOfRange ∷ DeviceUnmapped ∷ EventBeyondBits ∷ CollectionUnmapped ∷ PairUnmapped ∷ ProcessorUnlisted ∷ []
+
+-- 01's own table, in which a refused command has one number for all its reasons
+abbrev pub numberIn01 : Refusal → ℕ
+numberIn01 Unsound = 1
+numberIn01 RowTooShort = 10
+numberIn01 InvalidAccess = 2
+numberIn01 Identification = 3
+numberIn01 BaseZero = 4
+numberIn01 WriterRefused = 7
+numberIn01 BudgetExceeded = 5
+numberIn01 NotInWindow = 6
+numberIn01 OpcodeUnknown = 7
+numberIn01 LpiOutOfRange = 7
+numberIn01 DeviceUnmapped = 7
+numberIn01 EventBeyondBits = 7
+numberIn01 CollectionUnmapped = 7
+numberIn01 PairUnmapped = 7
+numberIn01 ProcessorUnlisted = 7
+numberIn01 ResourceNotFound = 8
+numberIn01 TableFull = 9
+numberIn01 LineDoesNotFit = 11
+
+-- 02, A1: "folding the new numbers back into 7", and no other number (proofs/Numbers)
+unfoldable pub folded : ℕ → ℕ
+folded n = if leb 20 n && leb n 26 then 7 else n
 
 -- what was accepted has the number 0
 abbrev pub verdictNumber : Verdict → ℕ

@@ -1,0 +1,167 @@
+-- A command is refused for a reason exactly if what the reason says holds (Reasons.Because), and a write that a command stops tells its reason.
+-- Assumes nothing.
+use Prim.Native.Nat.{ℕ, _≤_, _<_, _^_}
+use borrow.Author.Tests.{ltb-true, ltb-false, lt-ltb, le-ltb}
+use mathlib.Core.Path.{_≡_, refl, subst}
+use mathlib.Core.Bool.{Bool, true, false}
+use mathlib.Core.List.{List}
+use mathlib.Core.Option.{Option, none, some}
+use mathlib.Core.Logic.{_↔_}
+use Rattle.model.specs.declared.ItsDeviceId.{ItsDeviceId}
+use Rattle.model.specs.declared.EventId.{EventId}
+use Rattle.model.specs.declared.CollectionId.{CollectionId}
+use Rattle.model.specs.declared.LpiId.{LpiId}
+use Rattle.model.specs.declared.ItsDevice.{ItsDevice}
+use Rattle.model.specs.declared.ItsState.{ItsState}
+use Rattle.model.specs.declared.Command.{Command}
+use Rattle.model.specs.declared.Command.the-variants.{Mapd, Mapc, Mapti, Mapi, Movi, Int, Clear, Discard, Inv, Invall, Sync}
+use Rattle.model.specs.declared.Decoded.{Decoded}
+use Rattle.model.specs.declared.Decoded.the-variants.{Known, Unknown}
+use Rattle.model.specs.declared.Refusal.{Refusal}
+use Rattle.model.specs.declared.Refusal.the-variants.{NotInWindow, OpcodeUnknown, LpiOutOfRange, DeviceUnmapped, EventBeyondBits, CollectionUnmapped, PairUnmapped, ProcessorUnlisted, ResourceNotFound, TableFull}
+use Rattle.model.specs.declared.Verdict.{Verdict}
+use Rattle.model.specs.declared.Verdict.the-variants.{Accepted, Refused}
+use Rattle.model.specs.Choose.{_or_then_, ifFound, isFound}
+use Rattle.model.specs.Config.{listed}
+use Rattle.model.specs.Decode.{opcodeOf, decode}
+use Rattle.model.specs.Step.{deviceOf, collectionOf, translationOf, deliveryIn, lpiInRange, eventBelow, deviceMapped, eventFits, collectionMapped, pairMapped, pairTranslates, roomForDevice, roomForCollection, roomForPair, checkMapping, check}
+use Rattle.model.specs.Queue.{Window, commandAt, commandAddress, stays, judged, turnOn, turn}
+use Rattle.model.proofs.Cases.{never, found}
+use Rattle.guarantees.specs.Refusals.{at-command, givenAt, IfRefused}
+use Rattle.guarantees.specs.Reasons.{MapsPair, mapti, mapi, LpiHeld, DeviceHeld, Because, lpi, device, event, collection, movi-collection, invall-collection, movi-pair, discard-pair, inv-pair, processor, int-nowhere, clear-nowhere, devices-full, collections-full, pairs-full, CommandRead, Told, not-there, opcode-unknown, because}
+use Rattle.guarantees.specs.Theorems.{OfEveryWrite}
+use Rattle.guarantees.proofs.Refused.{refusal-kept}
+
+-- what was not found is nothing
+missing : {A : Type 0} (o : Option A) → isFound o ≡ false → o ≡ none
+missing none h = refl
+missing (some a) h = never true refl h
+
+-- where checks refuse, the first one fails and gives the reason, or it holds and one of the others does
+first : (Q : Refusal → Type 0) (b : Bool) (own : Refusal) (rest : Verdict) {why : Refusal} → (b or Refused own then rest) ≡ Refused why →
+    (b ≡ false → Q own) → (b ≡ true → rest ≡ Refused why → Q why) → Q why
+first Q true own rest h f g = g refl h
+first Q false own rest {why} h f g = let same : own ≡ why = cc in subst Q same (f refl)
+
+-- and after the last one nothing refuses
+no-more : {P : Type 0} {why : Refusal} → Accepted ≡ Refused why → P
+no-more h = never true refl (cc)
+
+module _ (u : ItsState) where
+  fits : (o : Option ItsDevice) (e : EventId) {r : ItsDevice} → o ≡ some r → ifFound o (λ q. eventBelow (q .«event_bits») e) false ≡ true → e .0 < 2 ^ (r .«event_bits»)
+  unfolding eventBelow
+  fits o e s h = ltb-true _ _ (rw s at h)
+
+  beyond : (o : Option ItsDevice) (e : EventId) {r : ItsDevice} → o ≡ some r → ifFound o (λ q. eventBelow (q .«event_bits») e) false ≡ false → 2 ^ (r .«event_bits») ≤ e .0
+  unfolding eventBelow
+  beyond o e s h = ltb-false _ _ (rw s at h)
+
+  mapping : {x : Command} {d : ItsDeviceId} {e : EventId} {l : LpiId} {c : CollectionId} {why : Refusal} →
+      MapsPair x d e l c → checkMapping u d e l c ≡ Refused why → Because u x why
+  unfolding checkMapping
+  mapping {x} {d} {e} {l} {c} m h =
+      first (Because u x) (lpiInRange (u .config) l) LpiOutOfRange _ h (λ fails. lpi m fails) (λ ok h.
+      let held : LpiHeld u x d e l c = record { maps = m; in-range = ok } in
+      first (Because u x) (deviceMapped u d) DeviceUnmapped _ h (λ fails. device held (missing (deviceOf u d) fails)) (λ ok h.
+      let (r, is) = found (deviceOf u d) ok in
+      let there : DeviceHeld u x d e l c r = record { lpi = held; mapped = is } in
+      first (Because u x) (eventFits u d e) EventBeyondBits _ h (λ fails. event there (beyond (deviceOf u d) e is fails)) (λ ok h.
+      let below = fits (deviceOf u d) e is ok in
+      first (Because u x) (collectionMapped u c) CollectionUnmapped _ h (λ fails. collection there below (missing (collectionOf u c) fails)) (λ ok h.
+      let (k, in-it) = found (collectionOf u c) ok in
+      first (Because u x) (roomForPair u d e) TableFull _ h (λ fails. pairs-full there below in-it fails) (λ ok h. no-more h)))))
+
+  because-of : (x : Command) (why : Refusal) → check u x ≡ Refused why → Because u x why
+  because-of (Mapd d bits true) why h = first (Because u (Mapd d bits true)) (roomForDevice u d) TableFull _ h (λ fails. devices-full fails) (λ ok h. no-more h)
+  because-of (Mapd d bits false) why h = no-more h
+  because-of (Mapc c p true) why h =
+      first (Because u (Mapc c p true)) (listed (u .config) p) ProcessorUnlisted _ h (λ fails. processor fails) (λ ok h.
+      first (Because u (Mapc c p true)) (roomForCollection u c) TableFull _ h (λ fails. collections-full ok fails) (λ ok h. no-more h))
+  because-of (Mapc c p false) why h = no-more h
+  because-of (Mapti d e l c) why h = mapping mapti h
+  because-of (Mapi d e c) why h = mapping mapi h
+  because-of (Movi d e c) why h =
+      first (Because u (Movi d e c)) (collectionMapped u c) CollectionUnmapped _ h (λ fails. movi-collection (missing (collectionOf u c) fails)) (λ ok h.
+      let (k, in-it) = found (collectionOf u c) ok in
+      first (Because u (Movi d e c)) (pairMapped u d e) PairUnmapped _ h (λ fails. movi-pair in-it (missing (translationOf u d e) fails)) (λ ok h. no-more h))
+  because-of (Int d e) why h =
+      first (Because u (Int d e)) (pairTranslates u d e) ResourceNotFound _ h (λ fails. int-nowhere (missing (deliveryIn u d e) fails)) (λ ok h. no-more h)
+  because-of (Clear d e) why h =
+      first (Because u (Clear d e)) (pairTranslates u d e) ResourceNotFound _ h (λ fails. clear-nowhere (missing (deliveryIn u d e) fails)) (λ ok h. no-more h)
+  because-of (Discard d e) why h =
+      first (Because u (Discard d e)) (pairMapped u d e) PairUnmapped _ h (λ fails. discard-pair (missing (translationOf u d e) fails)) (λ ok h. no-more h)
+  because-of (Inv d e) why h =
+      first (Because u (Inv d e)) (pairMapped u d e) PairUnmapped _ h (λ fails. inv-pair (missing (translationOf u d e) fails)) (λ ok h. no-more h)
+  because-of (Invall c) why h =
+      first (Because u (Invall c)) (collectionMapped u c) CollectionUnmapped _ h (λ fails. invall-collection (missing (collectionOf u c) fails)) (λ ok h. no-more h)
+  because-of Sync why h = no-more h
+
+  -- Back: what the reason says is what the check finds.
+
+  checked : {x : Command} {d : ItsDeviceId} {e : EventId} {l : LpiId} {c : CollectionId} → MapsPair x d e l c → check u x ≡ checkMapping u d e l c
+  checked mapti = refl
+  checked mapi = refl
+
+  refused-so : {x : Command} {why : Refusal} → Because u x why → check u x ≡ Refused why
+  unfolding checkMapping eventBelow
+  refused-so (lpi m fails) = rw (checked m, fails)
+  refused-so (device h fails) = rw (checked (h .maps), h .in-range, fails)
+  refused-so (event h fails) = rw (checked (h .lpi .maps), h .lpi .in-range, h .mapped, le-ltb _ _ fails)
+  refused-so (collection h below fails) = rw (checked (h .lpi .maps), h .lpi .in-range, h .mapped, lt-ltb _ _ below, fails)
+  refused-so (movi-collection fails) = rw fails
+  refused-so (invall-collection fails) = rw fails
+  refused-so (movi-pair in-it fails) = rw (in-it, fails)
+  refused-so (discard-pair fails) = rw fails
+  refused-so (inv-pair fails) = rw fails
+  refused-so (processor fails) = rw fails
+  refused-so (int-nowhere fails) = rw fails
+  refused-so (clear-nowhere fails) = rw fails
+  refused-so (devices-full fails) = rw fails
+  refused-so (collections-full is fails) = rw (is, fails)
+  refused-so (pairs-full h below in-it fails) = rw (checked (h .lpi .maps), h .lpi .in-range, h .mapped, lt-ltb _ _ below, in-it, fails)
+
+  -- The command on which CREADR stands.
+
+  module _ (w : Window) where
+    stay-verdict : (v : Verdict) (x : Command) (opcode told : ℕ) (why : Refusal) → judged v x opcode ≡ stays why told → (v ≡ Refused why) × (opcode ≡ told)
+    stay-verdict Accepted x opcode told why h = never true refl (cc)
+    stay-verdict (Refused own) x opcode told why h = (cc, cc)
+
+    stay-decoded : (ws : List ℕ) (k : Decoded) (opcode : ℕ) (why : Refusal) → CommandRead w u ws → decode ws ≡ k → turnOn u (opcodeOf ws) k ≡ stays why opcode → Told w u why opcode
+    stay-decoded ws (Known x) opcode why there is h =
+        let (fails, same) = stay-verdict (check u x) x (opcodeOf ws) opcode why h in
+        rw (← same) (because there is (because-of x why fails))
+    stay-decoded ws (Unknown n) opcode why there is h =
+        let same : OpcodeUnknown ≡ why = cc in
+        let told : opcodeOf ws ≡ opcode = cc in
+        rw (← same, ← told) (opcode-unknown there is)
+
+    stay-words : (o : Option (List ℕ)) (why : Refusal) (opcode : ℕ) → commandAt w (commandAddress (u .registers) (u .registers .creadr)) ≡ o →
+        ifFound o (λ ws. turnOn u (opcodeOf ws) (decode ws)) (stays NotInWindow 0) ≡ stays why opcode → Told w u why opcode
+    stay-words none why opcode there h =
+        let same : NotInWindow ≡ why = cc in
+        let told : _≡_ {A = ℕ} 0 opcode = cc in
+        rw (← same, ← told) (not-there there)
+    stay-words (some ws) why opcode there h = stay-decoded ws (decode ws) opcode why there refl h
+
+    told : (why : Refusal) (opcode : ℕ) → turn w u ≡ stays why opcode → Told w u why opcode
+    unfolding turn
+    told why opcode h = stay-words (commandAt w (commandAddress (u .registers) (u .registers .creadr))) why opcode refl h
+
+-- and back
+told-so : (u : ItsState) (w : Window) {why : Refusal} {opcode : ℕ} → Told w u why opcode → turn w u ≡ stays why opcode
+unfolding turn
+told-so u w (not-there h) = rw h
+told-so u w (opcode-unknown there is) = rw (there, is)
+told-so u w (because there is why) = rw (there, is, refused-so u why)
+
+pub refused-because : (u : ItsState) (x : Command) (why : Refusal) → (check u x ≡ Refused why) ↔ Because u x why
+refused-because u x why = (because-of u x why, refused-so u)
+
+pub stops-because : (w : Window) (u : ItsState) (why : Refusal) (opcode : ℕ) → (turn w u ≡ stays why opcode) ↔ Told w u why opcode
+stops-because w u why opcode = (told u w why opcode, told-so u w)
+
+pub reason-told : OfEveryWrite (λ w row u offset width value r left.
+    (why : Refusal) → givenAt why ≡ at-command → IfRefused r why (λ opcode at done. Told w (r .unit) why opcode))
+reason-told w row u offset width value r left h why g opcode at done a =
+    told (r .unit) w why opcode (refusal-kept w row u offset width value r left h .at-a-command why g opcode at done a .fails)
