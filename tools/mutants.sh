@@ -24,16 +24,16 @@ build() { # TARGET_FOLDER SOURCES [OPTION]
     }
 }
 
-# The first name whose field number $1 differs between two lists of digests.
-first_name() { # FIELD
-    awk -v field="$1" 'NR == FNR { edited[$1] = $field; next }
-        edited[$1] != $field { print $1; exit }' "$work/edited" "$work/original"
+# The first name whose digest differs between two lists of them.
+first_name() {
+    awk 'NR == FNR { edited[$1] = $2; next }
+        edited[$1] != $2 { print $1; exit }' "$work/edited" "$work/original"
 }
 
 # The first line that differs between two runs over one trace.
-first_line() { # COMMAND
-    "$original" "$1" "$work/trace" >"$work/a"
-    "$edited" "$1" "$work/trace" >"$work/b" 2>/dev/null || echo "(stops)" >>"$work/b"
+first_line() {
+    "$original" answer "$work/trace" >"$work/a"
+    "$edited" answer "$work/trace" >"$work/b" 2>/dev/null || echo "(stops)" >>"$work/b"
     awk 'NR == FNR { line[NR] = $0; next }
         line[FNR] != $0 { printf "line %d, `%s` became `%s`\n", FNR, line[FNR], $0; exit }' \
         "$work/a" "$work/b"
@@ -50,19 +50,13 @@ for edit in $("$original" edits); do
     "$original" edit "$edit" "$sources" "$work/sources-$edit"
     build target/edited "$work/sources-$edit"
     "$edited" digests "$seeds" >"$work/edited" 2>/dev/null || true
-    name=$(first_name 2)
+    name=$(first_name)
     if [ -n "$name" ]; then
         "$original" trace "$name" >"$work/trace"
-        echo "$edit: $name, $(first_line answer)"
-        continue
+        echo "$edit: $name, $(first_line)"
+    else
+        echo "$edit: NOT told apart by $seeds seeds" >&2
+        failed=1
     fi
-    name=$(first_name 3)
-    if [ -n "$name" ]; then
-        "$original" trace "$name" >"$work/trace"
-        echo "$edit: equal lines; by the Rust's words, $name, $(first_line explain)"
-        continue
-    fi
-    echo "$edit: NOT told apart by $seeds seeds" >&2
-    failed=1
 done
 exit $failed

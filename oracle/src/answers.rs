@@ -10,7 +10,11 @@ use crate::window::Window;
 /// The lines of a trace, and how far they are the Rust's.
 #[derive(Debug, Default)]
 pub struct Answers {
+    /// With 01's numbers: 7 for every check of a command.
     pub lines: Vec<u8>,
+    /// The same lines with 20 to 26 for a command's checks, as the Rust's own
+    /// text tells which one failed.
+    pub told: Vec<u8>,
     /// The run stopped at a 9: its line is the last, and a comparison ends there.
     pub ended_at_nine: bool,
     /// Calls answered without the Rust, for 01 puts them outside the domain.
@@ -64,13 +68,15 @@ pub fn watched_answers(trace: &[u8], watcher: &mut impl Watcher) -> Answers {
             Err(malformed) => {
                 watcher.malformed(&malformed);
                 put_malformed(&mut answers.lines, &malformed);
+                put_malformed(&mut answers.told, &malformed);
                 break;
             }
         };
         let answer = run.answer(&record);
         answers.around.count(&record, &answer);
         watcher.answered(&record, &answer, run.unit.as_ref());
-        put_answer(&mut answers.lines, &answer);
+        put_answer(&mut answers.lines, &answer, |written| written.refusal);
+        put_answer(&mut answers.told, &answer, |written| written.told);
         if matches!(&answer, Answer::Wr(written) if written.refusal == 9) {
             answers.ended_at_nine = true;
             break;
@@ -107,10 +113,7 @@ impl Run {
                 value,
             } => Answer::Wr(match &mut self.unit {
                 Some(unit) => unit.write(*offset, *width, *value),
-                None => Written {
-                    refusal: 1,
-                    ..Written::default()
-                },
+                None => Written::refused(1),
             }),
             Record::Tr { device, event } => Answer::Tr(match &self.unit {
                 Some(unit) => unit.translate(*device, *event),
@@ -143,7 +146,8 @@ impl Around {
     }
 }
 
-pub(crate) fn put_answer(lines: &mut Vec<u8>, answer: &Answer) {
+/// The lines of an answer; a write has the number that `refusal` takes from it.
+pub(crate) fn put_answer(lines: &mut Vec<u8>, answer: &Answer, refusal: fn(&Written) -> u8) {
     match answer {
         Answer::Cf(refusal) => put(lines, format_args!("CF {refusal}")),
         Answer::Gm => put(lines, format_args!("GM 0")),
@@ -152,8 +156,8 @@ pub(crate) fn put_answer(lines: &mut Vec<u8>, answer: &Answer) {
         Answer::Tr(Ok((lpi, processor))) => put(lines, format_args!("TR 0 {lpi} {processor}")),
         Answer::Tr(Err(refusal)) => put(lines, format_args!("TR {refusal} 0 0")),
         Answer::Wr(written) => {
+            let refusal = refusal(written);
             let Written {
-                refusal,
                 opcode,
                 offset,
                 done,

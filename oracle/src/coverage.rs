@@ -6,6 +6,7 @@ mod commands;
 mod configurations;
 mod counts;
 mod mappings;
+mod reasons;
 mod retries;
 mod rings;
 mod state;
@@ -43,6 +44,7 @@ impl Default for Coverage {
             Box::new(accesses::Lines),
             Box::<configurations::Configurations>::default(),
             Box::<commands::Commands>::default(),
+            Box::<reasons::Reasons>::default(),
             Box::<mappings::Mappings>::default(),
             Box::<tables::Fullness>::default(),
             Box::new(rings::Rings),
@@ -108,6 +110,12 @@ impl Coverage {
             self.around.identification,
             self.counts.report()
         )
+    }
+
+    /// The refused MOVIs with neither their collection nor their pair mapped.
+    pub fn moves_without_both(&self) -> u64 {
+        let (row, column) = reasons::OF_A_MOVE;
+        self.counts.count(row, column)
     }
 
     /// The names of the counts at zero.

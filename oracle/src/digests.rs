@@ -2,7 +2,6 @@
 
 use crate::answers::answers;
 use crate::exhaustive::{self, Named};
-use crate::explain::reasons;
 use crate::generate::trace_for;
 
 /// The traces of the first seeds.
@@ -20,11 +19,9 @@ pub fn trace_named(name: &str) -> Option<Vec<u8>> {
         .map(|(_, trace)| trace)
 }
 
-/// The name, a digest of the lines, and one of the Rust's words for refusals.
+/// The name, and a digest of the lines.
 pub fn digest_line(name: &str, trace: &[u8]) -> String {
-    let lines = digest(&answers(trace).lines);
-    let reasons = digest(reasons(trace).as_bytes());
-    format!("{name} {lines:016x} {reasons:016x}\n")
+    format!("{name} {:016x}\n", digest(&answers(trace).told))
 }
 
 /// FNV-1a over 64 bits.

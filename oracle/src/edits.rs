@@ -14,7 +14,7 @@ struct Edit {
     to: &'static str,
 }
 
-const EDITS: [Edit; 12] = [
+const EDITS: [Edit; 14] = [
     Edit {
         name: "queue-distance",
         file: MOD,
@@ -27,7 +27,8 @@ const EDITS: [Edit; 12] = [
         from: "raw > limit",
         to: "raw >= limit",
     },
-    // 01 gives 7 for either check, so only the Rust's words show this one.
+    // Refused either way: which check is told shows this one, as it does for the
+    // other edits of an order.
     Edit {
         name: "movi-tests-pair-first",
         file: COMMAND,
@@ -39,6 +40,7 @@ const EDITS: [Edit; 12] = [
         let translation = self
 ",
     },
+    // Its checks stay in their order, so that only what it stored shows this one.
     Edit {
         name: "movi-stores-before-its-test",
         file: COMMAND,
@@ -49,12 +51,32 @@ const EDITS: [Edit; 12] = [
             .ok_or_else(|| invalid_mapping(0x01, offset, device, event))?;
         translation.collection = collection;
 ",
-        to: "        let translation = self
-            .translations
-            .get_mut(&(device, event))
-            .ok_or_else(|| invalid_mapping(0x01, offset, device, event))?;
-        translation.collection = collection;
+        to: "        if let Some(translation) = self.translations.get_mut(&(device, event)) {
+            translation.collection = collection;
+        }
         self.require_collection(collection, 0x01, offset)?;
+        self.require_device_event(device, event, 0x01, offset)?;
+",
+    },
+    Edit {
+        name: "mapti-tests-device-first",
+        file: COMMAND,
+        from: "                let lpi = checked_lpi((words[1] >> 32) as u32, lpi_limit, opcode, offset)?;
+",
+        to: "                self.require_device_event_capacity(device, event, opcode, offset)?;
+                let lpi = checked_lpi((words[1] >> 32) as u32, lpi_limit, opcode, offset)?;
+",
+    },
+    Edit {
+        name: "mapping-tests-collection-first",
+        file: COMMAND,
+        from: "        self.require_device_event_capacity(device, event, opcode, offset)?;
+        let collection = CollectionId::new(words[2] as u16);
+        self.require_collection(collection, opcode, offset)?;
+",
+        to: "        let collection = CollectionId::new(words[2] as u16);
+        self.require_collection(collection, opcode, offset)?;
+        self.require_device_event_capacity(device, event, opcode, offset)?;
 ",
     },
     Edit {

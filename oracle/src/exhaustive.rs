@@ -3,6 +3,7 @@
 mod accesses;
 mod cuts;
 mod opcodes;
+mod reasons;
 mod sizes;
 mod triples;
 mod windows;
@@ -15,6 +16,7 @@ pub fn traces() -> impl Iterator<Item = Named> {
     accesses::low_offsets()
         .chain(accesses::edges())
         .chain(opcodes::traces())
+        .chain(reasons::traces())
         .chain(sizes::traces())
         .chain(windows::traces())
         .chain(cuts::traces())
@@ -23,12 +25,13 @@ pub fn traces() -> impl Iterator<Item = Named> {
 }
 
 /// What of the parts is recorded: all of the small ones, some of the others.
-pub fn some() -> [(&'static str, Vec<Named>); 5] {
+pub fn some() -> [(&'static str, Vec<Named>); 6] {
     let valid = |(name, _): &Named| name.ends_with("valid-1");
     [
         ("edges", accesses::edges().collect()),
         ("low-offsets", accesses::low_offsets().step_by(31).collect()),
         ("opcodes", opcodes::traces().filter(valid).collect()),
+        ("reasons", reasons::traces().collect()),
         ("sizes", sizes::traces().collect()),
         ("windows", windows::traces().step_by(4).collect()),
     ]

@@ -1,5 +1,6 @@
 //! A trace as text with its answers as comments, and the Rust's own words for
-//! each refusal of a write. It still assembles to the same trace.
+//! each refusal of a write beside the number that they tell. It still assembles
+//! to the same trace.
 
 use arm_vgic::VgicError;
 
@@ -14,13 +15,6 @@ pub fn explain(trace: &[u8]) -> String {
     explained.text
 }
 
-/// The Rust's words for each refused write, one a line.
-pub fn reasons(trace: &[u8]) -> String {
-    let mut reasons = Reasons::default();
-    watched_answers(trace, &mut reasons);
-    reasons.0
-}
-
 #[derive(Default)]
 struct Explained {
     text: String,
@@ -30,7 +24,7 @@ impl Watcher for Explained {
     fn answered(&mut self, record: &Record, answer: &Answer, _: Option<&Unit>) {
         self.text += &text::show(record);
         let mut lines = Vec::new();
-        put_answer(&mut lines, answer);
+        put_answer(&mut lines, answer, |written| written.told);
         for line in String::from_utf8_lossy(&lines).lines() {
             self.text += &format!("#   {line}\n");
         }
@@ -42,20 +36,6 @@ impl Watcher for Explained {
     fn malformed(&mut self, malformed: &Malformed) {
         self.text += &format!("#   ?? {}\n", malformed.offset);
     }
-}
-
-#[derive(Default)]
-struct Reasons(String);
-
-impl Watcher for Reasons {
-    fn answered(&mut self, _: &Record, answer: &Answer, _: Option<&Unit>) {
-        if let Some(reason) = reason(answer) {
-            self.0 += &reason;
-            self.0.push('\n');
-        }
-    }
-
-    fn malformed(&mut self, _: &Malformed) {}
 }
 
 fn reason(answer: &Answer) -> Option<String> {

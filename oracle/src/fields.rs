@@ -43,6 +43,14 @@ impl Fields {
             valid: words[2] >> 63 == 1,
         }
     }
+
+    /// The LPI that a MAPTI or a MAPI names.
+    pub fn named_lpi(&self) -> u32 {
+        match self.opcode {
+            MAPI => self.event,
+            _ => self.lpi,
+        }
+    }
 }
 
 /// The words of 32 bytes, little-endian.

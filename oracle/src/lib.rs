@@ -21,6 +21,8 @@ pub mod explain;
 pub mod fields;
 pub mod generate;
 pub mod lines;
+#[cfg(feature = "published")]
+pub mod reason;
 pub mod record;
 #[cfg(feature = "published")]
 pub mod recorded;

@@ -1,5 +1,16 @@
 //! Two runs of lines, held against each other.
 
+/// How many lines there are; a last one that does not end counts too.
+pub fn count(lines: &[u8]) -> usize {
+    lines.split_inclusive(|byte| *byte == b'\n').count()
+}
+
+/// The first lines, as many as there are up to this count.
+pub fn first(count: usize, lines: &[u8]) -> &[u8] {
+    let kept = lines.split_inclusive(|byte| *byte == b'\n').take(count);
+    &lines[..kept.map(<[u8]>::len).sum()]
+}
+
 /// The first line in which two runs of lines differ.
 pub fn first_difference(lines: &[u8], expected: &[u8]) -> Option<String> {
     if lines == expected {

@@ -13,7 +13,7 @@ use oracle::room::{PROGRAM_BUFFER, written};
 use oracle::{digests, edits, explain, recorded, text};
 
 const USAGE: &str = "usage: oracle COMMAND
-  answer [FILE]     the Rust's answers to a trace
+  answer [FILE]     the Rust's answers to a trace, with the reasons that its texts tell
   itstrace [FILE]   the same, within the limits of the program itstrace
   assemble [FILE]   a trace from text
   list [FILE]       text from a trace
@@ -74,7 +74,7 @@ fn run(words: &[&str]) -> Result<(), String> {
 
 fn answer(trace: &[u8]) -> Result<(), String> {
     let answers = answers(trace);
-    output(&answers.lines)?;
+    output(&answers.told)?;
     if answers.ended_at_nine {
         eprintln!("oracle: the run ends at a 9, which the Rust does not have");
     }
@@ -85,7 +85,7 @@ fn itstrace(trace: &[u8]) -> Result<(), String> {
     if trace.len() > PROGRAM_BUFFER {
         return output(b"LONG\n");
     }
-    let lines = answers(trace).lines;
+    let lines = answers(trace).told;
     output(&lines[..written(&lines, PROGRAM_BUFFER)])
 }
 

@@ -1,4 +1,5 @@
-//! The fixed list of traces with the Rust's answers: made, and held against.
+//! The fixed list of traces with the Rust's answers: made, and held against. A
+//! refused command has the number that the Rust's own text tells.
 
 use std::fs;
 use std::path::Path;
@@ -36,7 +37,7 @@ pub fn record(texts: &Path, folder: &Path) -> Result<(usize, usize), String> {
     let traces = list(texts)?;
     let mut bytes = 0;
     for (name, trace) in &traces {
-        let lines = answers(trace).lines;
+        let lines = answers(trace).told;
         if trace.len() > PROGRAM_BUFFER || lines.len() > PROGRAM_BUFFER {
             return Err(format!("{name} is too long for itstrace"));
         }
@@ -54,7 +55,7 @@ pub fn record(texts: &Path, folder: &Path) -> Result<(usize, usize), String> {
 pub fn check(folder: &Path) -> Result<usize, String> {
     let names = names(folder, "trace")?;
     for name in &names {
-        let lines = answers(&read(folder, &format!("{name}.trace"))?).lines;
+        let lines = answers(&read(folder, &format!("{name}.trace"))?).told;
         let expected = read(folder, &format!("{name}.expect"))?;
         if let Some(difference) = first_difference(&lines, &expected) {
             return Err(format!("{name}: {difference}"));

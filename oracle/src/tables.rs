@@ -33,7 +33,8 @@ impl Table {
 
 #[derive(Clone, Debug, Default)]
 pub struct Tables {
-    devices: BTreeSet<u32>,
+    /// The mapped devices and their event bits.
+    devices: BTreeMap<u32, u8>,
     collections: BTreeSet<u16>,
     translations: BTreeMap<(u32, u32), u16>,
 }
@@ -45,10 +46,11 @@ impl Tables {
         let pair = (fields.device, fields.event);
         match fields.opcode {
             MAPD if fields.valid => {
-                if !self.devices.contains(&fields.device) && self.devices.len() == DEVICES {
+                let new = !self.has_device(fields.device);
+                if new && self.devices.len() == DEVICES {
                     return Err(Table::Devices);
                 }
-                self.devices.insert(fields.device);
+                self.devices.insert(fields.device, fields.bits);
             }
             MAPD => {
                 self.devices.remove(&fields.device);
@@ -86,7 +88,13 @@ impl Tables {
     }
 
     pub fn has_device(&self, device: u32) -> bool {
-        self.devices.contains(&device)
+        self.devices.contains_key(&device)
+    }
+
+    /// Whether an event lies beyond the bits of its device, if that is mapped.
+    pub fn beyond_bits(&self, device: u32, event: u32) -> bool {
+        let bits = self.devices.get(&device);
+        bits.is_some_and(|bits| *bits < 32 && event >> bits != 0)
     }
 
     pub fn has_collection(&self, collection: u16) -> bool {

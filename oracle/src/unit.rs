@@ -6,6 +6,7 @@ use arm_vgic::{AccessWidth, Delivered, EventId, GITS_CBASER, GITS_CREADR, GicV3C
 use arm_vgic::{GicV3Controller, ItsDeviceId, VgicError};
 
 use crate::fields::{BYTES_OF_A_COMMAND, Fields, Words};
+use crate::reason;
 use crate::record::Configuration;
 use crate::tables::{Table, Tables};
 use crate::window::Window;
@@ -22,7 +23,11 @@ pub struct Unit {
 /// What a write answered, and what the Rust did on the way.
 #[derive(Debug, Default)]
 pub struct Written {
+    /// 01's number: for the Rust's refusals, that of the kind of error.
     pub refusal: u8,
+    /// The same, with 20 to 26 where the Rust's text tells which check of a
+    /// command failed.
+    pub told: u8,
     pub opcode: u8,
     pub offset: u64,
     pub done: u64,
@@ -36,6 +41,17 @@ pub struct Written {
     /// CREADR before the write, and the size of the ring.
     pub reader: u64,
     pub size: u64,
+}
+
+impl Written {
+    /// A refusal that no command and no offset goes with.
+    pub fn refused(refusal: u8) -> Self {
+        Self {
+            refusal,
+            told: refusal,
+            ..Self::default()
+        }
+    }
 }
 
 impl Unit {
@@ -60,18 +76,13 @@ impl Unit {
         let width = self.before_the_register(offset, width)?;
         self.controller
             .read_its(offset, width)
-            .map_err(|error| number(&error))
+            .map_err(|error| reason::kind(&error))
     }
 
     pub fn write(&mut self, offset: u64, width: u8, value: u64) -> Written {
         let width = match self.before_the_register(offset, width) {
             Ok(width) => width,
-            Err(refusal) => {
-                return Written {
-                    refusal,
-                    ..Written::default()
-                };
-            }
+            Err(refusal) => return Written::refused(refusal),
         };
         let reader = self.register(GITS_CREADR);
         let outcome = self.controller.write_its(offset, width, value);
@@ -93,7 +104,7 @@ impl Unit {
         self.controller
             .translate(ItsDeviceId::new(device), EventId::new(event))
             .map(|(lpi, processor)| (lpi.raw(), processor.raw()))
-            .map_err(|error| number(&error))
+            .map_err(|error| reason::kind(&error))
     }
 
     pub fn tables(&self) -> &Tables {
@@ -117,7 +128,7 @@ impl Unit {
         }
         match self.controller.read_its(offset, width) {
             Ok(_) => Err(3),
-            Err(error) => Err(number(&error)),
+            Err(error) => Err(reason::kind(&error)),
         }
     }
 
@@ -162,7 +173,8 @@ impl Unit {
             _ => (0, 0),
         };
         Written {
-            refusal: number(&error),
+            refusal: reason::kind(&error),
+            told: reason::told(&error),
             opcode,
             offset,
             error: Some(error),
@@ -188,7 +200,6 @@ impl Unit {
             };
             let advance = (before * BYTES_OF_A_COMMAND) as u64;
             return Written {
-                refusal: 9,
                 opcode: fields.opcode,
                 offset: (written.reader + advance) % written.size,
                 done: before as u64,
@@ -196,24 +207,9 @@ impl Unit {
                 reader: written.reader,
                 size: written.size,
                 commands: written.commands[..=before].to_vec(),
-                ..Written::default()
+                ..Written::refused(9)
             };
         }
         written
-    }
-}
-
-/// 01's number for the Rust's kind of error.
-fn number(error: &VgicError) -> u8 {
-    match error {
-        VgicError::InvalidAccess { .. } => 2,
-        VgicError::InvalidConfig { .. } => 4,
-        VgicError::ItsCommandBudgetExceeded { .. } => 5,
-        VgicError::GuestMemory { .. } => 6,
-        VgicError::InvalidItsCommand { .. } => 7,
-        VgicError::ResourceNotFound { .. } => 8,
-        VgicError::Unsupported { operation, .. } => {
-            unreachable!("no trace reaches a part that is left out: {operation}")
-        }
     }
 }

@@ -25,6 +25,7 @@ struct Tried {
     bytes: u64,
     calls: u64,
     cut: u64,
+    folded: u64,
 }
 
 /// Tries the damaged traces of the numbers from one on; an error is a fault of
@@ -64,6 +65,7 @@ pub fn damage(call: Call, from: u64, count: u64) -> Result<String, String> {
         all.bytes += tried.bytes;
         all.calls += tried.calls;
         all.cut += tried.cut;
+        all.folded += tried.folded;
     }
     Ok(all.summary(count, begun.elapsed().as_secs_f64()))
 }
@@ -80,7 +82,7 @@ impl Tried {
         if let Some(fault) = shape::fault(trace, &whole, cut) {
             return Err(fault);
         }
-        rusts(trace, &whole, number)?;
+        self.folded += rusts(trace, &whole, number)?;
         let near = [whole.len().saturating_sub(1), whole.len(), whole.len() + 1];
         for length in (0..=SMALL).chain(near).chain(LARGE) {
             let (count, left) = rooms::fits(&whole, cut, length);
@@ -122,26 +124,26 @@ impl Tried {
             grouped(self.calls),
             grouped(self.cut),
             if cfg!(feature = "published") {
-                "; and every line as the published Rust gives it"
+                let folded = grouped(self.folded);
+                format!(
+                    "; and every line as the published Rust gives it ({folded} answers folded into 7)"
+                )
             } else {
-                ""
+                String::new()
             },
         )
     }
 }
 
-/// The lines are the Rust's.
+/// The lines are the Rust's; how many of them were folded.
 #[cfg(feature = "published")]
-fn rusts(trace: &[u8], whole: &[u8], number: u64) -> Result<(), String> {
+fn rusts(trace: &[u8], whole: &[u8], number: u64) -> Result<u64, String> {
     let answers = oracle::answers::answers(trace);
-    match oracle::compare::difference(&answers, MOST_OUTPUT, whole, number) {
-        Some(difference) => Err(difference),
-        None => Ok(()),
-    }
+    oracle::compare::difference(&answers, MOST_OUTPUT, whole, number).map(|folded| folded.all())
 }
 
 /// The Rust is not at hand.
 #[cfg(not(feature = "published"))]
-fn rusts(_: &[u8], _: &[u8], _: u64) -> Result<(), String> {
-    Ok(())
+fn rusts(_: &[u8], _: &[u8], _: u64) -> Result<u64, String> {
+    Ok(0)
 }

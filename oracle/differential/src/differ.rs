@@ -1,7 +1,7 @@
 //! One trace, answered by both.
 
 use oracle::answers::{Answers, answers};
-use oracle::compare;
+use oracle::compare::{self, Folded};
 use oracle::room::MOST_OUTPUT;
 
 use crate::call::{Call, Lent};
@@ -9,19 +9,26 @@ use crate::call::{Call, Lent};
 /// The byte that an output holds before the call.
 const FILL: u8 = 0xa5;
 
-/// What the call does otherwise than the Rust, whose answers are given.
-pub fn difference(call: Call, trace: &[u8], rust: &Answers, lent: &mut Lent) -> Option<String> {
-    match lent.call(call, trace, MOST_OUTPUT, FILL) {
-        Ok((number, bytes)) => compare::difference(rust, MOST_OUTPUT, bytes, number),
-        Err(fault) => Some(fault),
-    }
+/// What of the call's answer was folded, or as an error what it does otherwise
+/// than the Rust, whose answers are given.
+pub fn difference(
+    call: Call,
+    trace: &[u8],
+    rust: &Answers,
+    lent: &mut Lent,
+) -> Result<Folded, String> {
+    let (number, bytes) = lent.call(call, trace, MOST_OUTPUT, FILL)?;
+    compare::difference(rust, MOST_OUTPUT, bytes, number)
 }
 
 /// A difference as a report: the trace as text and both answers.
 pub fn report(call: Call, trace: &[u8]) -> String {
     let rust = answers(trace);
     let mut lent = Lent::default();
-    let what = difference(call, trace, &rust, &mut lent).unwrap_or_else(|| "none".into());
+    let what = match difference(call, trace, &rust, &mut lent) {
+        Ok(_) => "none".into(),
+        Err(what) => what,
+    };
     let ours = match lent.call(call, trace, MOST_OUTPUT, FILL) {
         Ok((number, bytes)) => format!(
             "{}the C call returned {number}\n",
@@ -32,10 +39,14 @@ pub fn report(call: Call, trace: &[u8]) -> String {
     format!(
         "The difference: {what}\n\
          The trace as text (tools/itstrace.sh --text and oracle assemble take it):\n\n{}\n\
-         The published Rust answers{}:\n\n{}\n\
+         The published Rust answers, with its reasons{}:\n\n{}\n\
          The C call answers:\n\n{ours}",
         oracle::text::list(trace),
-        if rust.ended_at_nine { " up to a 9" } else { "" },
-        String::from_utf8_lossy(&rust.lines),
+        if rust.ended_at_nine {
+            ", up to a 9"
+        } else {
+            ""
+        },
+        String::from_utf8_lossy(&rust.told),
     )
 }

@@ -6,6 +6,8 @@ pub mod damage;
 pub mod damaged;
 #[cfg(feature = "published")]
 pub mod differ;
+#[cfg(feature = "published")]
+pub mod foldings;
 pub mod numbers;
 pub mod recorded;
 pub mod rooms;

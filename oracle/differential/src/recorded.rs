@@ -9,7 +9,8 @@ use oracle::room::MOST_OUTPUT;
 use crate::call::{Call, Lent};
 
 /// Every NAME.trace of a folder against its NAME.expect: how many there are.
-/// A recording of the Rust that ends at a 9 is compared up to there.
+/// A recording of the Rust that ends at a 9 is compared up to there. The recorded
+/// lines have the reasons that the Rust's texts tell: nothing is folded.
 pub fn recorded(call: Call, folder: &Path) -> Result<usize, String> {
     let shown = |error| format!("{}: {error}", folder.display());
     let mut traces = 0;

@@ -4,12 +4,14 @@ use std::sync::Mutex;
 use std::time::{Duration, Instant};
 
 use oracle::answers::answers;
+use oracle::compare::Folded;
 use oracle::coverage::Coverage;
 use oracle::exhaustive;
 use oracle::generate::trace_for;
 
 use crate::call::{Call, Lent};
 use crate::differ::{difference, report};
+use crate::foldings::Foldings;
 use crate::numbers::grouped;
 use crate::shrink::shortest;
 use crate::workers::work;
@@ -25,6 +27,7 @@ pub struct Traces {
 #[derive(Default)]
 struct Compared {
     coverage: Coverage,
+    folded: Folded,
     bytes: u64,
     lines: u64,
     commands: u64,
@@ -36,6 +39,7 @@ struct Compared {
 impl Compared {
     fn absorb(&mut self, other: &Self) {
         self.coverage.absorb(&other.coverage);
+        self.folded.absorb(&other.folded);
         self.bytes += other.bytes;
         self.lines += other.lines;
         self.commands += other.commands;
@@ -76,16 +80,17 @@ pub fn run(call: Call, name: &str, traces: &Traces) -> Result<String, String> {
             let clock = Instant::now();
             let other = difference(call, &trace, &rust, &mut lent);
             compared.call += clock.elapsed();
-            if other.is_some() {
+            let Ok(folded) = other else {
                 let mut first = found.lock().expect("no worker panics");
                 if first.as_ref().is_none_or(|(earlier, ..)| number < *earlier) {
                     *first = Some((number, title, trace));
                 }
                 numbers.stop();
                 break;
-            }
+            };
+            compared.folded.absorb(&folded);
             compared.bytes += trace.len() as u64;
-            compared.count_lines(&rust.lines);
+            compared.count_lines(&rust.told);
             numbers.done();
         }
         compared
@@ -97,6 +102,7 @@ pub fn run(call: Call, name: &str, traces: &Traces) -> Result<String, String> {
     for compared in &ended {
         all.absorb(compared);
     }
+    all.foldings().held_against(traces)?;
     Ok(all.summary(name, traces, named.len() as u64, begun.elapsed()))
 }
 
@@ -104,7 +110,7 @@ pub fn run(call: Call, name: &str, traces: &Traces) -> Result<String, String> {
 /// that still does.
 fn shrunk(call: Call, name: &str, trace: &[u8]) -> String {
     let differs = |candidate: &[u8]| {
-        difference(call, candidate, &answers(candidate), &mut Lent::default()).is_some()
+        difference(call, candidate, &answers(candidate), &mut Lent::default()).is_err()
     };
     let short = shortest(trace, &differs);
     format!(
@@ -134,6 +140,13 @@ impl Compared {
         }
     }
 
+    fn foldings(&self) -> Foldings {
+        Foldings {
+            folded: self.folded,
+            moves: self.coverage.moves_without_both(),
+        }
+    }
+
     fn summary(&self, call: &str, traces: &Traces, exhaustive: u64, took: Duration) -> String {
         let last = traces.from.wrapping_add(traces.count.saturating_sub(1));
         let missing = self.coverage.missing();
@@ -144,9 +157,11 @@ impl Compared {
         };
         format!(
             "Compared: {call}, compiled for this machine, with the published Rust, in one\n\
-             process: every line, the number returned, and that no byte beyond the written ones changed.\n\
+             process: every line, with 20 to 26 folded into 7 and with the reasons that the Rust's texts tell,\n\
+             the number returned, and that no byte beyond the written ones changed.\n\
              {} traces of seeds {} to {last}, {} exhaustive traces; {} bytes of trace, {} lines,\n\
              {} commands carried out: 0 differences, {:.1} s.\n\
+             {}\n\
              Time of all threads: making the traces {:.1} s, the Rust and its counts {:.1} s, the C call \
              {:.1} s.\n\n{}{reached}\n",
             grouped(traces.count),
@@ -156,6 +171,7 @@ impl Compared {
             grouped(self.lines),
             grouped(self.commands),
             took.as_secs_f64(),
+            self.foldings().summary(),
             self.making.as_secs_f64(),
             self.rust.as_secs_f64(),
             self.call.as_secs_f64(),

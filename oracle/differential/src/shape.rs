@@ -1,8 +1,10 @@
 //! Whether lines can be the answer to a trace at all, without asking the Rust:
 //! a line for each record in order, its numbers in decimal and within their
-//! kinds, as many AC lines as the write before them says, and `??` with the
-//! right offset where the trace breaks off.
+//! kinds, a refusal with an opcode that can have it, as many AC lines as the
+//! write before them says, and `??` with the right offset where the trace breaks
+//! off.
 
+use oracle::fields::{CLEAR, DISCARD, INT, INV, INVALL, MAPC, MAPD, MAPI, MAPTI, MOVI, SYNC};
 use oracle::record::{Record, Records};
 use oracle::room::MOST_OUTPUT;
 
@@ -49,8 +51,7 @@ pub fn fault(trace: &[u8], lines: &[u8], cut: bool) -> Option<String> {
                     matches!(refusal, 0 | 1 | 8) && (*refusal == 0 || *lpi == 0 && *processor == 0)
                 }
                 (Ok(Record::Wr { .. }), [refusal, opcode, _, done, actions]) => {
-                    matches!(refusal, 0..=9)
-                        && *opcode <= 255
+                    refuses(*refusal, *opcode, *done)
                         && *done <= 1024
                         && actions <= done
                         && (*refusal == 0 || *actions == 0)
@@ -76,6 +77,29 @@ pub fn fault(trace: &[u8], lines: &[u8], cut: bool) -> Option<String> {
     }
     rest.next()
         .map(|line| format!("`{line}` answers no record"))
+}
+
+/// Whether a write can have this refusal with this opcode and so many commands
+/// done. Each check of a command belongs to certain opcodes.
+fn refuses(refusal: u64, opcode: u64, done: u64) -> bool {
+    let known = [
+        MAPD, MAPC, MAPTI, MAPI, MOVI, INT, CLEAR, SYNC, DISCARD, INV, INVALL,
+    ];
+    let Ok(opcode) = u8::try_from(opcode) else {
+        return false;
+    };
+    match refusal {
+        0 | 6 => opcode == 0,
+        1..=5 | 7 => opcode == 0 && done == 0,
+        8 => [INT, CLEAR].contains(&opcode),
+        9 => [MAPD, MAPC, MAPTI, MAPI].contains(&opcode),
+        20 => !known.contains(&opcode),
+        21..=23 => [MAPTI, MAPI].contains(&opcode),
+        24 => [MAPTI, MAPI, MOVI, INVALL].contains(&opcode),
+        25 => [MOVI, DISCARD, INV].contains(&opcode),
+        26 => opcode == MAPC,
+        _ => false,
+    }
 }
 
 fn mark(record: &Record) -> &'static str {

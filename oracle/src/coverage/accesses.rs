@@ -18,7 +18,13 @@ impl Part for Lines {
             ("CF", &["0", "1"]),
             ("GM", &["0"]),
             ("RD", &["0", "1", "2", "3"]),
-            ("WR", &["0", "1", "2", "3", "4", "5", "6", "7", "8", "9"]),
+            (
+                "WR",
+                &[
+                    "0", "1", "2", "3", "4", "5", "6", "7", "8", "9", "20", "21", "22", "23", "24",
+                    "25", "26",
+                ],
+            ),
             ("TR", &["0", "1", "8"]),
             ("AC", &["pending", "clear"]),
         ])
@@ -29,7 +35,7 @@ impl Part for Lines {
             Answer::Cf(refusal) => ("CF", *refusal),
             Answer::Gm => ("GM", 0),
             Answer::Rd(result) => ("RD", result.err().unwrap_or(0)),
-            Answer::Wr(written) => ("WR", written.refusal),
+            Answer::Wr(written) => ("WR", written.told),
             Answer::Tr(result) => ("TR", result.err().unwrap_or(0)),
         };
         counts.add(row, &refusal.to_string());

@@ -10,6 +10,7 @@ use crate::answers::Answer;
 use crate::fields::{
     CLEAR, DISCARD, Fields, INT, INV, INVALL, MAPC, MAPD, MAPI, MAPTI, MOVI, SYNC,
 };
+use crate::reason::told;
 use crate::record::Record;
 use crate::tables::Tables;
 
@@ -136,24 +137,16 @@ fn name(opcode: u8) -> &'static str {
 }
 
 fn reason(fields: &Fields, error: &VgicError) -> &'static str {
-    let detail = match error {
-        VgicError::InvalidItsCommand { detail, .. } => detail.as_str(),
-        VgicError::ResourceNotFound { .. } => return "pair unmapped",
-        other => unreachable!("a command is not refused with {other:?}"),
-    };
-    let lpi = match fields.opcode {
-        MAPI => fields.event,
-        _ => fields.lpi,
-    };
-    match detail.split(' ').next() {
-        Some("unsupported") => "opcode unknown",
-        Some("LPI") if lpi < 8_192 => "LPI too low",
-        Some("LPI") => "LPI too high",
-        Some("device") => "device unmapped",
-        Some("event") => "event beyond the bits",
-        Some("collection") => "collection unmapped",
-        Some("translation") => "pair unmapped",
-        Some("processor") => "processor not listed",
-        _ => unreachable!("the Rust gives no such reason: {detail}"),
+    match told(error) {
+        20 => "opcode unknown",
+        21 if fields.named_lpi() < 8_192 => "LPI too low",
+        21 => "LPI too high",
+        22 => "device unmapped",
+        23 => "event beyond the bits",
+        24 => "collection unmapped",
+        // INT and CLEAR have 8 for a pair that is not mapped.
+        25 | 8 => "pair unmapped",
+        26 => "processor not listed",
+        _ => unreachable!("a command is not refused with {error:?}"),
     }
 }

@@ -31,6 +31,16 @@ impl Counts {
         count.1 += 1;
     }
 
+    /// A count, which must be listed.
+    pub fn count(&self, row: &str, column: &str) -> u64 {
+        self.rows
+            .iter()
+            .find(|listed| listed.name == row)
+            .and_then(|listed| listed.columns.iter().find(|(name, _)| name == column))
+            .unwrap_or_else(|| panic!("the count `{row}: {column}` is not listed"))
+            .1
+    }
+
     /// Adds the counts of another, which lists the same.
     pub fn absorb(&mut self, other: &Self) {
         for (row, added) in self.rows.iter_mut().zip(&other.rows) {

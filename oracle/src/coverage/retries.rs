@@ -1,4 +1,5 @@
-//! What follows a run that stopped: the same refusal again, or it goes on.
+//! What follows a run that stopped: the same refusal again, or it goes on. By
+//! the Rust's kinds of error: 7 stands for every check of a command.
 
 use super::Part;
 use super::counts::Counts;

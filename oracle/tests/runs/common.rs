@@ -5,10 +5,10 @@ use std::path::PathBuf;
 use oracle::answers::answers;
 use oracle::text::assemble;
 
-/// The lines of a trace given as text.
+/// The lines of a trace given as text, with the reasons that the Rust tells.
 pub fn lines_of(text: &str) -> Vec<String> {
     let trace = assemble(text).expect("a well-formed text");
-    let lines = String::from_utf8(answers(&trace).lines).expect("lines are text");
+    let lines = String::from_utf8(answers(&trace).told).expect("lines are text");
     lines.lines().map(String::from).collect()
 }
 

@@ -1,39 +1,153 @@
 //! How another implementation's answer is held against the Rust's.
 
-use oracle::answers::Answers;
-use oracle::compare::difference;
+use oracle::answers::{Answers, answers};
+use oracle::compare::{Folded, difference, fold};
+use oracle::digests::seeds;
+use oracle::exhaustive;
 
-fn answers(ended_at_nine: bool) -> Answers {
+/// Answers without a reason in them.
+fn plain(ended_at_nine: bool) -> Answers {
+    let lines = b"CF 0\nWR 9 8 0 0 0\n".to_vec();
     Answers {
-        lines: b"CF 0\nWR 9 8 0 0 0\n".to_vec(),
+        told: lines.clone(),
+        lines,
         ended_at_nine,
         ..Answers::default()
     }
 }
 
+/// Answers with two reasons, and what the port answers to the same.
+fn reasoned() -> Answers {
+    Answers {
+        lines: b"CF 0\nWR 7 10 32 1 0\nWR 7 0 4096 0 0\nWR 7 1 32 0 0\n".to_vec(),
+        told: b"CF 0\nWR 22 10 32 1 0\nWR 7 0 4096 0 0\nWR 24 1 32 0 0\n".to_vec(),
+        ..Answers::default()
+    }
+}
+
+/// The counts of the numbers 20 to 26.
+fn counts(folded: &Folded) -> Vec<u64> {
+    folded.counts().map(|(_, count)| count).collect()
+}
+
 #[test]
 fn equal_answers_have_no_difference() {
-    let lines = answers(false).lines;
-    assert_eq!(difference(&answers(false), 100, &lines, 16 * 18), None);
-    assert_eq!(difference(&answers(false), 8, b"CF 0\n", 16 * 5 + 11), None);
+    let lines = plain(false).lines;
+    assert!(difference(&plain(false), 100, &lines, 16 * 18).is_ok());
+    assert!(difference(&plain(false), 8, b"CF 0\n", 16 * 5 + 11).is_ok());
 }
 
 #[test]
 fn a_line_or_a_number_may_differ() {
     let other = b"CF 0\nWR 9 8 0 1 0\n";
-    let found = difference(&answers(false), 100, other, 16 * 18);
+    let found = difference(&plain(false), 100, other, 16 * 18).expect_err("another line");
     let expected = "line 2 is `WR 9 8 0 1 0`, expected `WR 9 8 0 0 0`";
-    assert_eq!(found.as_deref(), Some(expected));
-    let lines = answers(false).lines;
-    assert!(difference(&answers(false), 100, &lines, 16 * 18 + 11).is_some());
-    assert!(difference(&answers(false), 100, &lines[..5], 16 * 5).is_some());
+    assert!(found.ends_with(expected), "{found}");
+    let lines = plain(false).lines;
+    let number = difference(&plain(false), 100, &lines, 16 * 18 + 11).expect_err("a number");
+    assert_eq!(number, "the call returned 299, expected 288");
+    assert!(difference(&plain(false), 100, &lines[..5], 16 * 5).is_err());
 }
 
 #[test]
 fn after_a_nine_nothing_is_compared() {
-    let longer = b"CF 0\nWR 9 8 0 0 0\nRD 0 0\n";
-    assert_eq!(difference(&answers(true), 100, longer, 16 * 25), None);
-    assert!(difference(&answers(false), 100, longer, 16 * 25).is_some());
-    assert!(difference(&answers(true), 100, b"CF 0\n", 16 * 5).is_some());
-    assert_eq!(difference(&answers(true), 8, b"CF 0\n", 16 * 5 + 11), None);
+    let longer = b"CF 0\nWR 9 8 0 0 0\nWR 20 0 0 0 0\n";
+    let folded = difference(&plain(true), 100, longer, 16 * 32).expect("equal up to the 9");
+    assert_eq!(folded, Folded::default());
+    assert!(difference(&plain(false), 100, longer, 16 * 32).is_err());
+    assert!(difference(&plain(true), 100, b"CF 0\n", 16 * 5).is_err());
+    assert!(difference(&plain(true), 8, b"CF 0\n", 16 * 5 + 11).is_ok());
+}
+
+#[test]
+fn both_comparisons_are_made_and_named() {
+    let whole = reasoned().told.len();
+    let number = 16 * whole as u64;
+    let held = |from: &str, to: &str| {
+        let told = String::from_utf8(reasoned().told).expect("lines are text");
+        assert!(told.contains(from), "{from}");
+        let bytes = told.replace(from, to);
+        difference(&reasoned(), 100, bytes.as_bytes(), number)
+    };
+    let folded = held("CF 0", "CF 0").expect("the same lines");
+    assert_eq!(counts(&folded), [0, 0, 1, 0, 1, 0, 0]);
+    for (from, to) in [
+        ("WR 22", "WR 23"),
+        ("WR 24 1", "WR 25 1"),
+        ("WR 24 1", "WR 7 1"),
+        ("WR 7 0", "WR 20 0"),
+    ] {
+        let reason = held(from, to).expect_err("another reason");
+        assert!(reason.starts_with("by the reasons"), "{reason}");
+    }
+    for (from, to) in [
+        ("WR 22 10", "WR 22 11"),
+        ("10 32 1", "10 64 1"),
+        ("10 32 1", "10 32 0"),
+        ("WR 22 10", "WR 8 10"),
+        ("WR 22 10", "WR 27 10"),
+        ("WR 22 10", "WR 19 10"),
+        ("WR 24 1 32 0 0\n", ""),
+    ] {
+        let line = held(from, to).expect_err("another line");
+        assert!(line.starts_with("with 20 to 26 folded into 7"), "{line}");
+    }
+}
+
+/// A line with a reason is a byte longer than one with 7, and so it is the lines
+/// with reasons that fit or do not.
+#[test]
+fn what_fits_is_judged_with_the_reasons() {
+    let Answers { told, .. } = reasoned();
+    // The second line ends at byte 21 with its reason, and at 20 with a 7.
+    for (output, fits) in [(20, 5), (21, 21), (36, 21), (37, 37), (51, 37), (52, 52)] {
+        let number = 16 * fits as u64 + if fits < told.len() { 11 } else { 0 };
+        let folded = difference(&reasoned(), output, &told[..fits], number);
+        assert!(folded.is_ok(), "output of {output}: {folded:?}");
+        assert!(difference(&reasoned(), output, &told[..fits], number ^ 11).is_err());
+    }
+    let short = b"CF 0\nWR 7 10 32 1 0\n";
+    let reason = difference(&reasoned(), 20, short, 16 * 20 + 11).expect_err("a 7 for a 22");
+    assert!(reason.starts_with("by the reasons"), "{reason}");
+}
+
+#[test]
+fn only_the_refusal_of_a_write_is_folded() {
+    let lines = b"CF 20\nGM 21\nRD 22 20\nTR 23 24 25\nAC 20 8200 1\n?? 26\n\
+        WR 19 20 21 22 0\nWR 27 20 21 22 0\nWR 2 20 0 0 0\nWR 200 20 0 0 0\n\
+        WR 020 20 0 0 0\nWR  20 0 0 0\nWR 7 20 21 22 0\nXWR 20 0 0 0 0\nWRX 20 0 0 0 0\n";
+    let (same, folded) = fold(lines);
+    assert_eq!(
+        String::from_utf8_lossy(&same),
+        String::from_utf8_lossy(lines)
+    );
+    assert_eq!(folded, Folded::default());
+}
+
+#[test]
+fn every_reason_is_folded_and_counted() {
+    for (place, number) in (20..=26).enumerate() {
+        let line = format!("GM 0\nWR {number} 20 21 22 0\nWR {number} 1 0 0 0\n");
+        let (seven, folded) = fold(line.as_bytes());
+        assert_eq!(seven, b"GM 0\nWR 7 20 21 22 0\nWR 7 1 0 0 0\n");
+        let mut expected = [0; 7];
+        expected[place] = 2;
+        assert_eq!(counts(&folded), expected);
+    }
+    let (lines, mut folded) = fold(b"WR 24 1 0 0 0\nWR 20 0 0 0 0");
+    assert_eq!(lines, b"WR 7 1 0 0 0\nWR 7 0 0 0 0");
+    folded.absorb(&fold(b"WR 24 1 0 0 0\n").1);
+    assert_eq!(counts(&folded), [1, 0, 0, 0, 2, 0, 0]);
+}
+
+/// What the Rust's texts tell is a finer reading of the Rust's kinds, and of
+/// nothing else.
+#[test]
+fn the_told_lines_fold_to_the_rusts_kinds() {
+    let some = exhaustive::traces().step_by(3);
+    for (name, trace) in seeds(1_000).chain(some) {
+        let Answers { lines, told, .. } = answers(&trace);
+        assert!(fold(&told).0 == lines, "{name}");
+        assert!(fold(&lines).1 == Folded::default(), "{name}");
+    }
 }

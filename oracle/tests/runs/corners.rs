@@ -1,4 +1,5 @@
 //! Document 01's corners: the lines that it foretells, in the texts of traces/.
+//! A refused command has the number that 02 gives its reason.
 
 use crate::common::lines_of_file;
 
@@ -30,7 +31,7 @@ const CORNERS: [(&str, &[(usize, &str)]); 13] = [
     (
         "p09-event-bits",
         &[
-            (4, "WR 7 10 160 5 0"),
+            (4, "WR 23 10 160 5 0"),
             (5, "TR 0 8200 1"),
             (6, "TR 8 0 0"),
             (7, "TR 0 8201 1"),
@@ -39,10 +40,10 @@ const CORNERS: [(&str, &[(usize, &str)]); 13] = [
     (
         "p10-lpi-range",
         &[
-            (4, "WR 7 10 192 6 0"),
-            (6, "WR 7 10 192 0 0"),
-            (8, "WR 7 11 192 0 0"),
-            (10, "WR 7 11 192 0 0"),
+            (4, "WR 21 10 192 6 0"),
+            (6, "WR 21 10 192 0 0"),
+            (8, "WR 21 11 192 0 0"),
+            (10, "WR 21 11 192 0 0"),
             (11, "TR 0 8192 1"),
             (12, "TR 0 9000 1"),
         ],
@@ -51,7 +52,7 @@ const CORNERS: [(&str, &[(usize, &str)]); 13] = [
         "p11-second-mapd",
         &[
             (7, "TR 0 8200 1"),
-            (8, "WR 7 10 192 1 0"),
+            (8, "WR 23 10 192 1 0"),
             (10, "TR 0 8200 1"),
         ],
     ),
@@ -59,7 +60,7 @@ const CORNERS: [(&str, &[(usize, &str)]); 13] = [
         "budget-64-65",
         &[(4, "WR 0 0 0 64 0"), (6, "WR 5 0 2048 0 0")],
     ),
-    ("opcode-0e", &[(6, "WR 7 14 160 1 0")]),
+    ("opcode-0e", &[(6, "WR 20 14 160 1 0")]),
 ];
 
 #[test]

@@ -78,9 +78,9 @@ fn a_count_above_16_still_has_its_bytes() {
         processors: (0..17).collect(),
     })
     .encode(&mut trace);
-    assert_eq!(answers(&trace).lines, b"CF 1\n");
+    assert_eq!(answers(&trace).told, b"CF 1\n");
     trace.pop();
-    assert_eq!(answers(&trace).lines, b"?? 0\n");
+    assert_eq!(answers(&trace).told, b"?? 0\n");
 }
 
 #[test]

@@ -7,6 +7,7 @@ mod corners;
 mod domain;
 mod example;
 mod linux;
+mod reason;
 mod recorded;
 mod room;
 mod tables;

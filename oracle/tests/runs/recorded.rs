@@ -3,6 +3,7 @@
 use std::path::Path;
 
 use oracle::answers::answers;
+use oracle::coverage::Coverage;
 use oracle::generate::trace_for;
 use oracle::recorded::{check, list};
 
@@ -27,12 +28,28 @@ fn the_list_makes_the_recorded_traces() {
     }
 }
 
+/// The order of a command's checks shows where two of them fail: every such two
+/// are in the list.
+#[test]
+fn the_list_has_every_two_checks_that_fail_together() {
+    let mut coverage = Coverage::default();
+    for (_, trace) in list(Path::new(TEXTS)).expect("well-formed texts") {
+        coverage.trace(&trace);
+    }
+    let missing = coverage.missing();
+    let twos = missing
+        .iter()
+        .filter(|name| name.contains("for two reasons"));
+    assert_eq!(twos.count(), 0, "{missing:?}");
+    assert!(coverage.moves_without_both() > 0);
+}
+
 /// Both fit the buffers of the program itstrace.
 #[test]
 fn generated_traces_and_their_answers_fit_the_program() {
     for seed in 0..800 {
         let trace = trace_for(seed);
         assert!(trace.len() <= 32_768, "seed {seed}");
-        assert!(answers(&trace).lines.len() <= 32_768, "seed {seed}");
+        assert!(answers(&trace).told.len() <= 32_768, "seed {seed}");
     }
 }

@@ -1,0 +1,50 @@
+//! Which lines can be the answer to a write at all.
+
+use differential::shape::fault;
+use oracle::draft::Draft;
+
+/// Whether a write's lines can follow a configuration's.
+fn can_be(lines: &str) -> bool {
+    let mut draft = Draft::default();
+    draft.cf(65_535, 64, 65_536, &[0, 1]).wr(0x88, 8, 32);
+    fault(&draft.0, format!("CF 0\n{lines}\n").as_bytes(), false).is_none()
+}
+
+#[test]
+fn a_refusal_has_an_opcode_that_can_have_it() {
+    for line in [
+        "WR 7 0 32 0 0",
+        "WR 8 3 160 1 0",
+        "WR 9 10 160 1 0",
+        "WR 20 14 160 1 0",
+        "WR 20 0 160 1 0",
+        "WR 21 11 160 1 0",
+        "WR 22 10 160 1 0",
+        "WR 23 10 160 1 0",
+        "WR 24 1 160 1 0",
+        "WR 24 13 160 1 0",
+        "WR 25 15 160 1 0",
+        "WR 26 9 160 1 0",
+        "WR 0 0 0 1 1\nAC 1 8200 1",
+    ] {
+        assert!(can_be(line), "{line}");
+    }
+    for line in [
+        "WR 7 10 32 0 0",
+        "WR 7 0 32 1 0",
+        "WR 8 12 160 1 0",
+        "WR 10 0 0 0 0",
+        "WR 19 0 160 1 0",
+        "WR 27 0 160 1 0",
+        "WR 20 10 160 1 0",
+        "WR 20 256 160 1 0",
+        "WR 21 1 160 1 0",
+        "WR 22 12 160 1 0",
+        "WR 24 9 160 1 0",
+        "WR 25 3 160 1 0",
+        "WR 26 10 160 1 0",
+        "WR 20 14 160 1 1\nAC 1 8200 1",
+    ] {
+        assert!(!can_be(line), "{line}");
+    }
+}
