@@ -52,6 +52,31 @@ typedef struct {
     uint64_t numbers[ITS_TOLD];
 } its_told;
 
+/*
+ * Why a call is refused. Of its_write 20 to 26, 6, 8 and 9 are of a command in the queue: CREADR stands on it, told has its opcode (0 with 6) and
+ * CREADR as offset, it changed nothing, and the commands before it were carried out, as many as done says. 5 leaves what was written stored and
+ * runs nothing. All others change nothing, but for a refused its_configure.
+ */
+enum its_refusal {
+    ITS_UNSOUND = 1, /* The unit is not configured, or its numbers are not those of any unit. */
+    ITS_INVALID_ACCESS = 2, /* No such access: its width, alignment, or place. */
+    ITS_IDENTIFICATION = 3, /* An identification register, which the host answers itself. */
+    ITS_BASE_ZERO = 4, /* CBASER with a queue at address 0. */
+    ITS_BUDGET_EXCEEDED = 5, /* More commands wait than the budget allows. */
+    ITS_NOT_IN_WINDOW = 6, /* A command is not wholly in the window. */
+    ITS_WRITER_REFUSED = 7, /* An offset for CWRITER that is no place of the queue. */
+    ITS_RESOURCE_NOT_FOUND = 8, /* INT, CLEAR or a message: the pair does not translate. */
+    ITS_TABLE_FULL = 9, /* A command needs a new record, and its table is full. */
+    ITS_ROW_TOO_SHORT = 10, /* The row has less room than the budget. */
+    ITS_OPCODE_UNKNOWN = 20, /* A command that this unit does not have. */
+    ITS_LPI_OUT_OF_RANGE = 21, /* MAPTI, MAPI: the LPI is below 8192 or above the limit. */
+    ITS_DEVICE_UNMAPPED = 22, /* MAPTI, MAPI: the device is not mapped. */
+    ITS_EVENT_BEYOND_BITS = 23, /* MAPTI, MAPI: the event does not fit the device. */
+    ITS_COLLECTION_UNMAPPED = 24, /* MAPTI, MAPI, MOVI, INVALL: the collection is not mapped. */
+    ITS_PAIR_UNMAPPED = 25, /* MOVI, DISCARD, INV: the device's event is not mapped. */
+    ITS_PROCESSOR_UNLISTED = 26, /* MAPC: the processor is not of this unit. */
+};
+
 /* Makes the unit a fresh one of this configuration. Where it is refused, with 1, the unit is one that answers 1 to everything. */
 uint64_t its_configure(its_unit *unit, uint32_t lpi_limit, uint32_t command_budget, uint32_t frame_size, const uint16_t *processors,
     size_t processor_count, its_told *told);

@@ -7,6 +7,7 @@
 #                         the file in crates/replay/data/recorded; every difference-* file is on the page
 #   docs/ARM.md           every fact that a definition or an entry names by its number is there, and every fact is named by one
 #   docs/SECOND-VISIT.md  its pieces of a trace, one after the other, are the file in oracle/traces, and its pieces of lines the recorded file
+#   include/its.h         its refusals have the names and numbers of the definition, and so has the Rust crate host/its (11 is the C call's alone)
 #   crates/replay         `args` names every trace and its lines, in order, and `stdout` says how many there are
 # That the recorded lines are the Rust's is for tools/oracle.sh. `tools/documents.sh write` makes the two files of crates/replay anew.
 set -eu
@@ -204,6 +205,16 @@ def visit(page, wrong):
     return "three traces and their lines, as in the files"
 
 
+def refusals(header, wrong):
+    definition = re.findall(r"^numberOf (\w+) = ([0-9]+)$", read("crates/model/specs/Refusal.antt"), re.M)
+    numbers = {name: number for name, number in definition if number != "11"}
+    spelt = {"ITS_" + re.sub("(?<!^)(?=[A-Z])", "_", name).upper(): number for name, number in numbers.items()}
+    dict(re.findall(r"^    (ITS_\w+) = ([0-9]+),", header, re.M)) == spelt or wrong("its refusals are not those of Refusal.numberOf")
+    crate = re.findall(r"^    (\w+) = ([0-9]+), \"", read("host/its/src/refusal.rs"), re.M)
+    dict(crate) == numbers or wrong("the refusals of host/its are not those of Refusal.numberOf")
+    return f"{len(numbers)} refusals, with the names and numbers of the definition, as in host/its"
+
+
 def replay(write, wrong):
     args, lines = [], 0
     for folder in "recorded", "linux":
@@ -224,7 +235,8 @@ if sys.argv[1:] not in ([], ["write"]):
     sys.exit("usage: tools/documents.sh [write]")
 failed = False
 pages = {"SENTENCES": sentences, "GUARANTEES": guarantees, "DIFFERENCES": differences, "ARM": facts, "SECOND-VISIT": visit}
-checks = [(f"docs/{name}.md", check, read(f"docs/{name}.md")) for name, check in pages.items()] + [("crates/replay", replay, sys.argv[1:])]
+checks = [(f"docs/{name}.md", check, read(f"docs/{name}.md")) for name, check in pages.items()]
+checks += [("include/its.h", refusals, read("include/its.h")), ("crates/replay", replay, sys.argv[1:])]
 for name, check, given in checks[-1:] if sys.argv[1:] else checks:
     complaints = []
     summary = check(given, complaints.append)

@@ -58,7 +58,7 @@ int visit_main(void (*line)(const char *)) {
     check("the pair translates", its_translate(&unit, SEAT, TOUCH, &told) == 0 && is(0, LPI, PROCESSOR, 0, 0));
     check("CREADR", its_read(&unit, CREADR, 8, &told) == 0 && is(0, 128, 0, 0, 0));
     put(0x0f | seat, TOUCH + 1, 0);
-    check("DISCARD of no pair: refused with 7", write(CWRITER, 8, used) == 7 && is(7, 0x0f, 128, 0, 0));
+    check("DISCARD of no pair: refused with 25", write(CWRITER, 8, used) == ITS_PAIR_UNMAPPED && is(25, 0x0f, 128, 0, 0));
     line(wrong ? "visit: wrong answers" : "visit: every answer as expected");
     return wrong != 0;
 }

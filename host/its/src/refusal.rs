@@ -1,64 +1,94 @@
-//! Why a call is refused: document 01's numbers.
+//! Why a call is refused: document 01's numbers, and document 02's for a refused
+//! command.
 
 use core::fmt;
 
 use crate::calls::Answer;
 
-/// Document 01's number of a refusal.
-#[derive(Clone, Copy, Debug, Eq, PartialEq)]
-#[repr(u8)]
-pub enum Refusal {
-    /// Not configured, or the unit's numbers are not those of any unit.
-    Unsound = 1,
-    /// No such access: its width, alignment, or place.
-    InvalidAccess = 2,
-    /// An identification register.
-    Identification = 3,
-    /// A queue at address 0.
-    BaseZero = 4,
-    /// More commands wait than the budget allows.
-    BudgetExceeded = 5,
-    /// A command is not wholly in the window.
-    NotInWindow = 6,
-    /// A command, or an offset for CWRITER, that is not valid.
-    Invalid = 7,
-    /// The pair does not translate.
-    NotFound = 8,
-    /// A table is full.
-    TableFull = 9,
-    /// The row has less room than the budget.
-    RowTooShort = 10,
+/// The refusals from one table: what a refusal is for the host's author, its
+/// name, its number, and the reason in words for the author of the guest's driver.
+macro_rules! refusals {
+    ($($(#[$doc:meta])* $name:ident = $number:literal, $text:literal;)*) => {
+        /// Why a call was refused.
+        #[derive(Clone, Copy, Debug, Eq, PartialEq)]
+        #[non_exhaustive]
+        pub enum Refusal {
+            $($(#[$doc])* $name,)*
+            /// A number that this crate does not name: the archive is of another
+            /// version.
+            Unnamed(u64),
+        }
+
+        impl Refusal {
+            #[inline]
+            pub(crate) fn of(number: u64) -> Result<(), Self> {
+                Err(match number {
+                    0 => return Ok(()),
+                    $($number => Self::$name,)*
+                    _ => Self::Unnamed(number),
+                })
+            }
+
+            /// The number.
+            #[inline]
+            pub fn number(self) -> u64 {
+                match self {
+                    $(Self::$name => $number,)*
+                    Self::Unnamed(number) => number,
+                }
+            }
+
+            /// The reason in words, for the author of the guest's driver.
+            pub fn text(self) -> &'static str {
+                match self {
+                    $(Self::$name => $text,)*
+                    Self::Unnamed(_) => "a number that this version does not name",
+                }
+            }
+        }
+    };
 }
 
-impl Refusal {
-    #[inline]
-    pub(crate) fn of(number: u64) -> Result<(), Self> {
-        Err(match number {
-            0 => return Ok(()),
-            1 => Self::Unsound,
-            2 => Self::InvalidAccess,
-            3 => Self::Identification,
-            4 => Self::BaseZero,
-            5 => Self::BudgetExceeded,
-            6 => Self::NotInWindow,
-            7 => Self::Invalid,
-            8 => Self::NotFound,
-            9 => Self::TableFull,
-            // 10 is the only number left: 11 is of lines that do not fit.
-            _ => Self::RowTooShort,
-        })
-    }
-
-    /// The number.
-    #[inline]
-    pub fn number(self) -> u8 {
-        self as u8
-    }
+refusals! {
+    /// The unit is not configured, or its numbers are not those of any unit.
+    Unsound = 1, "the unit is not configured, or its numbers are not those of a unit";
+    /// No such access: its width, alignment, or place.
+    InvalidAccess = 2, "no register takes an access of this width at this place";
+    /// An identification register, which the host answers itself.
+    Identification = 3, "an identification register: the host answers it";
+    /// CBASER with a queue at address 0.
+    BaseZero = 4, "the queue's address in CBASER is 0";
+    /// More commands wait than the budget allows.
+    BudgetExceeded = 5, "more commands wait than one write may run";
+    /// A command is not wholly in the window.
+    NotInWindow = 6, "the command lies outside the guest memory that was lent";
+    /// An offset for CWRITER that is no place of the queue.
+    WriterRefused = 7, "CWRITER's offset is not a multiple of 32 below the queue's size, or CBASER is not set";
+    /// INT, CLEAR or a message: the pair does not translate.
+    ResourceNotFound = 8, "the device's event is not mapped, or its collection is not";
+    /// A command needs a new record, and its table is full.
+    TableFull = 9, "the table is full: 32 devices, 32 collections or 256 events are mapped";
+    /// The row has less room than the budget.
+    RowTooShort = 10, "the row for actions is shorter than the budget";
+    /// A command that this unit does not have.
+    OpcodeUnknown = 20, "this unit has no command with that opcode";
+    /// MAPTI, MAPI: the LPI is below 8192 or above the limit.
+    LpiOutOfRange = 21, "the LPI (of MAPI, its event) is below 8192 or above the configured limit";
+    /// MAPTI, MAPI: the device is not mapped.
+    DeviceUnmapped = 22, "the device is not mapped: MAPD with V 1 comes first";
+    /// MAPTI, MAPI: the event does not fit the device.
+    EventBeyondBits = 23, "the event is too large for the device: its MAPD gave Size, and events lie below 2^(Size + 1)";
+    /// MAPTI, MAPI, MOVI, INVALL: the collection is not mapped.
+    CollectionUnmapped = 24, "the collection is not mapped: MAPC with V 1 comes first";
+    /// MOVI, DISCARD, INV: the device's event is not mapped.
+    PairUnmapped = 25, "the device's event is not mapped: MAPTI or MAPI comes first";
+    /// MAPC: the processor is not of this unit.
+    ProcessorUnlisted = 26, "the processor is none of those that the unit was configured with";
 }
 
 impl fmt::Display for Refusal {
     fn fmt(&self, f: &mut fmt::Formatter<'_>) -> fmt::Result {
-        write!(f, "refused with {}", self.number())
+        write!(f, "refused with {}: {}", self.number(), self.text())
     }
 }
 
@@ -79,6 +109,13 @@ pub struct WriteRefused {
 }
 
 impl WriteRefused {
+    /// Whether a command was refused. It changed nothing and CREADR stands on it;
+    /// those before it were carried out.
+    #[inline]
+    pub fn is_of_a_command(&self) -> bool {
+        matches!(self.refusal.number(), 6 | 8 | 9 | 20..=26)
+    }
+
     #[inline]
     pub(crate) fn of(answer: &Answer) -> Result<(), Self> {
         Refusal::of(answer.refusal()).map_err(|refusal| Self {
@@ -92,8 +129,31 @@ impl WriteRefused {
 
 impl fmt::Display for WriteRefused {
     fn fmt(&self, f: &mut fmt::Formatter<'_>) -> fmt::Result {
-        write!(f, "{} after {} commands", self.refusal, self.done)
+        if self.is_of_a_command() {
+            write!(f, "command at {:#x} of the queue, ", self.offset)?;
+            // One that could not be read has no opcode.
+            if self.refusal != Refusal::NotInWindow {
+                write!(f, "opcode {:#04x}, ", self.opcode)?;
+            }
+        }
+        write!(f, "{}", self.refusal)
     }
 }
 
 impl core::error::Error for WriteRefused {}
+
+#[cfg(test)]
+mod tests {
+    use super::Refusal;
+
+    #[test]
+    fn a_number_comes_back_as_it_was() {
+        assert_eq!(Refusal::of(0), Ok(()));
+        for number in 1..300 {
+            let refusal = Refusal::of(number).unwrap_err();
+            assert_eq!(refusal.number(), number);
+            let named = matches!(number, 1..=10 | 20..=26);
+            assert_eq!(matches!(refusal, Refusal::Unnamed(_)), !named);
+        }
+    }
+}

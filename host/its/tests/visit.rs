@@ -1,6 +1,6 @@
 //! A host's calls, from a fresh unit to a message that arrives.
 
-use its::command::{discard, int, mapc, mapd, mapti, sync};
+use its::command::{clear, discard, int, inv, invall, mapc, mapd, mapi, mapti, movi, sync};
 use its::{Action, CollectionId, Configuration, DeviceId, EventId, Its, Lpi, Processor};
 use its::{Refusal, Window, WriteRefused, Written};
 
@@ -56,7 +56,10 @@ const TOUCH: EventId = EventId(2);
 #[test]
 fn a_message_arrives() {
     let mut host = Host::new();
-    assert_eq!(host.its.translate(SEAT, TOUCH), Err(Refusal::NotFound));
+    assert_eq!(
+        host.its.translate(SEAT, TOUCH),
+        Err(Refusal::ResourceNotFound)
+    );
     let mapped = host.run(&[
         mapd(SEAT, 4),
         mapc(CollectionId(1), Processor(3)),
@@ -89,11 +92,65 @@ fn a_refused_command_says_where() {
     assert_eq!(
         refused,
         Err(WriteRefused {
-            refusal: Refusal::Invalid,
+            refusal: Refusal::PairUnmapped,
             opcode: 0x0f,
             offset: 32,
             done: 1,
         })
+    );
+}
+
+/// A run of MAPD, MAPC and then this command, which is refused.
+fn refused(command: [u8; 32]) -> WriteRefused {
+    let mut host = Host::new();
+    let first = [mapd(SEAT, 4), mapc(CollectionId(1), Processor(3))];
+    host.run(&[first[0], first[1], command]).unwrap_err()
+}
+
+#[test]
+fn each_reason_of_a_command_has_its_number() {
+    let (one, two) = (CollectionId(1), CollectionId(2));
+    let mut movall = [0; 32];
+    movall[0] = 0x0e;
+    for (number, command) in [
+        (20, movall),
+        (21, mapti(SEAT, TOUCH, Lpi(8_191), one)),
+        (21, mapi(SEAT, TOUCH, one)),
+        (22, mapti(DeviceId(8), TOUCH, Lpi(8_200), one)),
+        (22, mapi(DeviceId(8), EventId(8_200), one)),
+        (23, mapti(SEAT, EventId(16), Lpi(8_200), one)),
+        (23, mapi(SEAT, EventId(8_200), one)),
+        (24, mapti(SEAT, TOUCH, Lpi(8_200), two)),
+        (24, movi(SEAT, TOUCH, two)),
+        (24, invall(two)),
+        (25, movi(SEAT, TOUCH, one)),
+        (25, discard(SEAT, TOUCH)),
+        (25, inv(SEAT, TOUCH)),
+        (26, mapc(two, Processor(1))),
+        (8, int(SEAT, TOUCH)),
+        (8, clear(SEAT, TOUCH)),
+    ] {
+        let refused = refused(command);
+        assert_eq!(refused.refusal.number(), number, "{command:?}");
+        assert_eq!((refused.offset, refused.done), (64, 2));
+        assert_eq!(refused.opcode, command[0]);
+        assert!(refused.is_of_a_command());
+    }
+}
+
+#[test]
+fn a_refusal_in_words() {
+    assert_eq!(
+        refused(mapti(DeviceId(8), TOUCH, Lpi(8_200), CollectionId(1))).to_string(),
+        "command at 0x40 of the queue, opcode 0x0a, refused with 22: the device is not mapped: MAPD with V 1 comes first"
+    );
+    let writer = Host::new().write(CWRITER, 8, 33).unwrap_err();
+    assert_eq!(writer.refusal, Refusal::WriterRefused);
+    assert!(!writer.is_of_a_command());
+    assert!(
+        writer
+            .to_string()
+            .starts_with("refused with 7: CWRITER's offset")
     );
 }
 
