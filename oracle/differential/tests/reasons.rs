@@ -123,37 +123,45 @@ fn picked(trace: &[u8], picks: fn(&Fields, &Written, &Tables) -> bool) -> Vec<us
     picked.lines
 }
 
-/// A MOVI that looks for its pair first.
-fn tells_the_pair_first(trace: &[u8], output: &mut [u8]) -> u64 {
+/// Whether the check with this number fails for a MAPTI or a MOVI.
+fn fails(number: u8, fields: &Fields, tables: &Tables) -> bool {
+    match number {
+        22 => !tables.has_device(fields.device),
+        23 => tables.beyond_bits(fields.device, fields.event),
+        24 => !tables.has_collection(fields.collection),
+        25 => tables.collection_of(fields.device, fields.event).is_none(),
+        _ => unreachable!("no order is tried with {number}"),
+    }
+}
+
+/// A command that makes one check after a later one: where both fail, the later
+/// one is told.
+fn tells_the_later<const OPCODE: u8, const FIRST: u8, const LATER: u8>(
+    trace: &[u8],
+    output: &mut [u8],
+) -> u64 {
     let both = picked(trace, |fields, written, tables| {
-        let pair = tables.collection_of(fields.device, fields.event);
-        fields.opcode == MOVI && written.told == 24 && pair.is_none()
+        fields.opcode == OPCODE && written.told == FIRST && fails(LATER, fields, tables)
     });
+    let (first, later) = (format!("WR {FIRST} "), format!("WR {LATER} "));
     edited(trace, output, |number, line| match both.contains(&number) {
-        true => begun(line, "WR 24 ", "WR 25 "),
+        true => begun(line, &first, &later),
         false => line.into(),
     })
 }
 
 #[test]
 fn the_order_of_a_movis_checks_is_found() {
-    told_otherwise(tells_the_pair_first, "WR 25 1 ", "WR 24 1 ");
-}
-
-/// A MAPTI that looks for its device first.
-fn tells_the_device_first(trace: &[u8], output: &mut [u8]) -> u64 {
-    let both = picked(trace, |fields, written, tables| {
-        fields.opcode == MAPTI && written.told == 21 && !tables.has_device(fields.device)
-    });
-    edited(trace, output, |number, line| match both.contains(&number) {
-        true => begun(line, "WR 21 ", "WR 22 "),
-        false => line.into(),
-    })
+    told_otherwise(tells_the_later::<MOVI, 24, 25>, "WR 25 1 ", "WR 24 1 ");
 }
 
 #[test]
-fn the_order_of_a_maptis_checks_is_found() {
-    told_otherwise(tells_the_device_first, "WR 22 10 ", "WR 21 10 ");
+fn the_order_of_a_maptis_four_checks_is_found() {
+    told_otherwise(tells_the_later::<MAPTI, 21, 22>, "WR 22 10 ", "WR 21 10 ");
+    told_otherwise(tells_the_later::<MAPTI, 21, 23>, "WR 23 10 ", "WR 21 10 ");
+    told_otherwise(tells_the_later::<MAPTI, 21, 24>, "WR 24 10 ", "WR 21 10 ");
+    told_otherwise(tells_the_later::<MAPTI, 22, 24>, "WR 24 10 ", "WR 22 10 ");
+    told_otherwise(tells_the_later::<MAPTI, 23, 24>, "WR 24 10 ", "WR 23 10 ");
 }
 
 /// The 8 of an INT as the reason that a DISCARD has.
