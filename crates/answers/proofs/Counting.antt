@@ -61,7 +61,7 @@ module _ (w : Window) where
 
     answers-by : (s : Stopped) → answerOf (record { unit = u; done = n .done; actions = made; stopped = stopOf s }) ≡ answeringBy s (u .registers .creadr) (n .done) (n .actions)
     answers-by Ended = ap (λ k. answeringBy Ended (u .registers .creadr) (n .done) k) (g .counted)
-    answers-by (Halted r opcode) = refl
+    answers-by (Halted r opcode) = ap (λ k. answeringBy (Halted r opcode) (u .registers .creadr) (n .done) k) (g .counted)
 
     -- the end
     module _ (z : n .left ≡ 0) where

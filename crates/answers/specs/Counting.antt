@@ -72,7 +72,7 @@ stopOf (Halted r opcode) = some (record { refusal = r; opcode = opcode })
 -- what they answer, with CREADR
 abbrev pub answeringBy : Stopped → ℕ → ℕ → ℕ → WriteAnswer
 answeringBy Ended reader done actions = Taken done actions
-answeringBy (Halted r opcode) reader done actions = NotTaken r opcode reader done
+answeringBy (Halted r opcode) reader done actions = NotTaken r opcode reader done actions
 
 abbrev pub answering : Counts → ℕ → WriteAnswer
 answering n reader = answeringBy (n .stopped) reader (n .done) (n .actions)

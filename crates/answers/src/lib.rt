@@ -75,11 +75,13 @@ pub fn write_numbers(answer: WriteAnswer) -> [u64; 5]
             opcode,
             offset,
             done,
+            actions,
         } => {
             let number = refusal_number(refusal);
             let o = opcode as u64;
             let d = done as u64;
-            [number, o, offset, d, 0]
+            let a = actions as u64;
+            [number, o, offset, d, a]
         }
     }
 }
@@ -103,7 +105,7 @@ pub fn translate_numbers(answer: TranslateAnswer) -> [u64; 5]
     }
 }
 
-// How many actions a write hands over.
+// How many actions a write hands over, refused or not.
 pub fn handed(answer: WriteAnswer) -> usize
     ensures { λ r. ⌜ r ≡ writeNumbers answer .actions ⌝ }
 {
@@ -114,7 +116,8 @@ pub fn handed(answer: WriteAnswer) -> usize
             opcode: _,
             offset: _,
             done: _,
-        } => 0,
+            actions,
+        } => actions,
     }
 }
 
@@ -207,6 +210,7 @@ pub fn answer_of(n: Counts, creadr: u64) -> WriteAnswer
             opcode: opcode,
             offset: creadr,
             done: n.done,
+            actions: n.actions,
         },
     }
 }

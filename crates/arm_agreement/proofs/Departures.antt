@@ -184,11 +184,11 @@ pub R29-departs : (held ready CWRITER ≡ 32) × (held (writing ready GITS-CBASE
 unfolding shown
 R29-departs = (refl, refl)
 
-pub R30-departs : writing (unit []) GITS-CBASER 0x8000000000000000 .answer ≡ NotTaken BaseZero 0 0 0
+pub R30-departs : writing (unit []) GITS-CBASER 0x8000000000000000 .answer ≡ NotTaken BaseZero 0 0 0 0
 unfolding shown
 R30-departs = refl
 
-pub R14-departs : writing ready GITS-CWRITER 65 .answer ≡ NotTaken WriterRefused 0 65 0
+pub R14-departs : writing ready GITS-CWRITER 65 .answer ≡ NotTaken WriterRefused 0 65 0 0
 unfolding shown
 R14-departs = refl
 

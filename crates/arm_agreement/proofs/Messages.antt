@@ -68,7 +68,8 @@ module _ (u : ItsState) (d e : ℕ) where
   unfolding actionsOn
   by-target pending = rw (target-seen u d e) (signalled pending (target-of (armOf u) d e))
 
-  -- INT makes the event's LPI pending at its collection's processor, and CLEAR takes it back. R12: it is lost if a later command is refused
+  -- INT makes the event's LPI pending at its collection's processor, and CLEAR takes it back. It is handed over though a later command is refused, where
+  -- the Rust loses it (R12, S15)
   pub signals-as-arm : (actionsOf u (Int (dev d) (ev e)) ≡ listOf (whenFound (target-of (armOf u) d e) (λ a. some (signal true a))))
       × (actionsOf u (Clear (dev d) (ev e)) ≡ listOf (whenFound (target-of (armOf u) d e) (λ a. some (signal false a))))
   signals-as-arm = (by-target true, by-target false)

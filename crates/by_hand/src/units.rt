@@ -9,6 +9,7 @@ use model::ItsState;
 use model::LpiId;
 use model::Translation;
 use showing::guest::CREADR;
+use showing::guest::CTLR;
 use showing::guest::CWRITER;
 use showing::guest::config;
 use showing::guest::example;
@@ -229,7 +230,8 @@ fn collection_not_mapped() {
     writes(b"INV of it", unit, &page, CWRITER, 160, wr(0, 0, 0, 1, 0));
 }
 
-// A refused write hands nothing over, and its row still holds the actions of the commands before the refused one.
+// A refused write hands over the actions of the commands before the refused one, and leaves the other records of its row; a later write that tries the
+// refused command again hands over nothing and leaves its whole row.
 pub fn row() {
     refused_write();
     short_row();
@@ -248,8 +250,9 @@ fn refused_write() {
     show(
         b"INT, CLEAR and then opcode 0E",
         text::lines::of_write(answer),
-        wr(20, 14, 192, 2, 0),
+        wr(20, 14, 192, 2, 2),
     );
+    let left = w.unit;
     let first = row[0];
     show(
         b"the row's record 0",
@@ -262,6 +265,24 @@ fn refused_write() {
     show(
         b"record 2, as it was lent",
         text::lines::of_action(third),
+        ac(0, 0, 0),
+    );
+    tried_again(left, &page);
+}
+
+fn tried_again(unit: ItsState, page: &[u8; 4096]) {
+    let w = write(unit, page, 64, CTLR, 4, 1);
+    let answer = w.answer;
+    let row = w.row;
+    show(
+        b"opcode 0E tried again",
+        text::lines::of_write(answer),
+        wr(20, 14, 192, 0, 0),
+    );
+    let first = row[0];
+    show(
+        b"the row's record 0, as it was lent",
+        text::lines::of_action(first),
         ac(0, 0, 0),
     );
 }

@@ -12,8 +12,11 @@ use showing::guest::put_example;
 use showing::guest::reads;
 use showing::guest::set;
 use showing::guest::translates;
+use showing::guest::write;
 use showing::guest::writes;
+use showing::show::ac;
 use showing::show::rd;
+use showing::show::show;
 use showing::show::tr;
 use showing::show::wr;
 
@@ -268,13 +271,19 @@ fn refused_after_int() {
     put_command(&mut page, 4, 0x5_0000_0003, 9, 0);
     put_command(&mut page, 5, 0xe, 0, 0);
     let unit = example(&page);
-    writes(
+    let w = write(unit, &page, 64, CWRITER, 8, 192);
+    let answer = w.answer;
+    let row = w.row;
+    show(
         b"after the example, INT (5, 9) and opcode 0E",
-        unit,
-        &page,
-        CWRITER,
-        192,
-        wr(20, 14, 160, 1, 0),
+        text::lines::of_write(answer),
+        wr(20, 14, 160, 1, 1),
+    );
+    let action = row[0];
+    show(
+        b"the INT's action, handed over all the same",
+        text::lines::of_action(action),
+        ac(1, 8200, 1),
     );
 }
 

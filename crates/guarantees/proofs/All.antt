@@ -1,6 +1,6 @@
 -- ALL THAT IS GUARANTEED holds.
 -- Assumes nothing.
-use Rattle.model.proofs.Numbers.{numbered, one-reason, folds, folded-only}
+use Rattle.model.proofs.Numbers.{numbered, one-reason, not-zero, folds, folded-only}
 use Rattle.guarantees.specs.Theorems.{Theorems}
 use Rattle.guarantees.proofs.InForce.{mappings-in-force, actions-given}
 use Rattle.guarantees.proofs.ByCalls.{led-by-calls, calls-in-force, call-actions-given}
@@ -40,6 +40,7 @@ theorems =
       refusal-follows = refusal-follows;
       numbered = numbered;
       one-reason = one-reason;
+      not-zero = not-zero;
       folds = folds;
       folded-only = folded-only;
       refused-because = refused-because;

@@ -37,7 +37,7 @@ use Rattle.model.proofs.Promised.{Promise, promise}
 use Rattle.model.proofs.Carried.{agrees-registers, lengthened}
 use Rattle.model.proofs.Held.{Held}
 use Rattle.its.specs.Contracts.{Writes}
-use Rattle.guarantees.specs.Actions.{passedBy, intsAndClears, ActionsOf, none-passed, an-int, a-clear, another, ActionsGiven}
+use Rattle.guarantees.specs.Actions.{actionsIn, passedBy, ActionsOf, none-passed, an-int, a-clear, another, ActionsGiven}
 use Rattle.guarantees.specs.Firm.{Firm}
 use Rattle.guarantees.proofs.Counted.{as-many}
 use Rattle.guarantees.proofs.Kept.{commands-kept}
@@ -83,12 +83,9 @@ actions-held {u = u} {h = h} m w row offset width value r left e =
     let c = commands-kept w row u offset width value r left e in
     let s = stores row u offset width value .registers in
     let given : ActionsOf h (passedBy w u r) (c .handed) = along h (c .carried) (agrees-registers u h s (m .agrees)) (rw (m .config) (m .backing)) in
-    let first : (n : ℕ) → length (c .handed) ≡ n → take n left ≡ c .handed =
-    λ n l. ap (take n) (c .in-row) ∙ take-at (c .handed) (drop (length (c .handed)) row) n l in
-    record {
-      in-row = rw (first (intsAndClears (passedBy w u r)) (as-many (c .carried))) given;
-      handed-over = λ done actions h. rw (first actions (sym (c .taken done actions h))) given;
-    }
+    let first : take (actionsIn r) left ≡ c .handed =
+    ap (take (actionsIn r)) (c .in-row) ∙ take-at (c .handed) (drop (length (c .handed)) row) (actionsIn r) (sym (c .handed-over)) in
+    record { handed-over = rw first given; as-many = c .handed-over ∙ as-many (c .carried) }
 
 -- THE HISTORY GIVES ONE LIST: the commands send a pair to one LPI and one processor.
 

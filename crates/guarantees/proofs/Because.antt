@@ -162,6 +162,6 @@ pub stops-because : (w : Window) (u : ItsState) (why : Refusal) (opcode : ℕ) �
 stops-because w u why opcode = (told u w why opcode, told-so u w)
 
 pub reason-told : OfEveryWrite (λ w row u offset width value r left.
-    (why : Refusal) → givenAt why ≡ at-command → IfRefused r why (λ opcode at done. Told w (r .unit) why opcode))
-reason-told w row u offset width value r left h why g opcode at done a =
-    told (r .unit) w why opcode (refusal-kept w row u offset width value r left h .at-a-command why g opcode at done a .fails)
+    (why : Refusal) → givenAt why ≡ at-command → IfRefused r why (λ opcode at done actions. Told w (r .unit) why opcode))
+reason-told w row u offset width value r left h why g opcode at done actions a =
+    told (r .unit) w why opcode (refusal-kept w row u offset width value r left h .at-a-command why g opcode at done actions a .fails)

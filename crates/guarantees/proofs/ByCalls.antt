@@ -25,12 +25,11 @@ use Rattle.model.specs.Keys.{delivery}
 use Rattle.model.specs.Refusal.{verdictNumber, readNumbers, writeNumbers, translateNumbers}
 use Rattle.model.specs.Queue.{Window}
 use Rattle.model.specs.Entry.{configure, read, translate}
-use Rattle.model.specs.Passed.{commandsPassed}
 use Rattle.model.proofs.Cases.{cases}
-use Rattle.model.proofs.Numbers.{one-reason, not-zero}
+use Rattle.model.proofs.Numbers.{one-reason}
 use Rattle.its.specs.Contracts.{Reads, Translates}
 use Rattle.host.specs.Calls.{Tells, actionIn, numbersOfWrite, numbersOfTranslation}
-use Rattle.guarantees.specs.Actions.{passedTold, intsAndClears, ActionsOf, ActionsGiven, CallActionsGiven}
+use Rattle.guarantees.specs.Actions.{passedTold, ActionsGiven, CallActionsGiven}
 use Rattle.guarantees.specs.MappingsInForce.{Led, begins, a-read, a-translation, a-write, MappingsInForce}
 use Rattle.guarantees.specs.CallsInForce.{LedByCalls, its-configure, its-read, its-translate, its-write, OfCallsTo, CallsInForce}
 use Rattle.guarantees.proofs.AsWrites.{call-writes}
@@ -81,7 +80,7 @@ told-refused (NotDelivered why) told t n = (λ q. ap NotDelivered (n why refl), 
 through : {A B C : Type 0} → A ↔ B → B ↔ C → A ↔ C
 through f g = (λ a. g .0 (f .0 a), λ c. f .1 (g .1 c))
 
--- what the number 1 says of an answer, and what the number 0 says of a write
+-- what the number 1 says of an answer
 read-1 : (a : ReadAnswer) → readNumbers a .refusal ≡ 1 → a ≡ NoValue Unsound
 read-1 (Value v) h = absurd (omega arith)
 read-1 (NoValue why) h = ap NoValue (one-reason why Unsound h)
@@ -90,13 +89,9 @@ translation-1 : (a : TranslateAnswer) → translateNumbers a .refusal ≡ 1 → 
 translation-1 (Delivered x) h = absurd (omega arith)
 translation-1 (NotDelivered why) h = ap NotDelivered (one-reason why Unsound h)
 
-write-1 : (a : WriteAnswer) → writeNumbers a .refusal ≡ 1 → (opcode : ℕ) × (at : ℕ) × (done : ℕ) × (a ≡ NotTaken Unsound opcode at done)
+write-1 : (a : WriteAnswer) → writeNumbers a .refusal ≡ 1 → (opcode : ℕ) × (at : ℕ) × (done : ℕ) × (actions : ℕ) × (a ≡ NotTaken Unsound opcode at done actions)
 write-1 (Taken done actions) h = absurd (omega arith)
-write-1 (NotTaken why opcode at done) h = (opcode, at, done, ap (λ z. NotTaken z opcode at done) (one-reason why Unsound h))
-
-write-0 : (a : WriteAnswer) → writeNumbers a .refusal ≡ 0 → a ≡ Taken (writeNumbers a .done) (writeNumbers a .actions)
-write-0 (Taken done actions) h = refl
-write-0 (NotTaken why opcode at done) h = absurd (not-zero why h)
+write-1 (NotTaken why opcode at done actions) h = (opcode, at, done, actions, ap (λ z. NotTaken z opcode at done actions) (one-reason why Unsound h))
 
 map-take : {A B : Type 0} (f : A → B) (n : ℕ) (l : List A) → map f (take n l) ≡ take n (map f l)
 map-take f zero l = refl
@@ -106,16 +101,12 @@ map-take f (suc n) (a ∷ l) = ap (λ t. f a ∷ t) (map-take f n l)
 -- the actions, in the numbers of the row
 module _ (h : List Command) (w : Window) (u left : ItsState) (after : List ℕ) (r : ℕ) (told : List ℕ) (a : WriteAnswer) (t : Tells (numbersOfWrite a) r told)
     (given : ActionsGiven h w u (record { unit = left; answer = a }) (map actionIn after)) where
-  row-told : ActionsOf h (passedTold w u told) (map actionIn (take (intsAndClears (passedTold w u told)) after))
-  row-told = rw (t .0, map-take actionIn (intsAndClears (commandsPassed w (u .registers) (writeNumbers a .done))) after) (given .in-row)
-
-  handed-told : r ≡ 0 → ActionsOf h (passedTold w u told) (map actionIn (take (getD told 4 0) after))
-  handed-told z =
-      rw (t .0, map-take actionIn (writeNumbers a .actions) after)
-      (given .handed-over (writeNumbers a .done) (writeNumbers a .actions) (write-0 a (sym (t .1) ∙ z)))
-
-  actions-told : CallActionsGiven h w u after r told
-  actions-told = record { in-row = row-told; handed-over = handed-told }
+  actions-told : CallActionsGiven h w u after told
+  actions-told =
+      record {
+        handed-over = rw (t .0, map-take actionIn (writeNumbers a .actions) after) (given .handed-over);
+        as-many = rw (t .0) (given .as-many);
+      }
 
 -- what is demanded of a unit, in the numbers told
 calls-told : {k : ItsConfig} {u : ItsState} {h : List Command} → MappingsInForce k u h → CallsInForce k u h
@@ -138,15 +129,15 @@ calls-told {u = u} m =
           m .never-1 .translates d e _ (translates-as u d e) (translation-1 (translate u d e) (sym (c .1) ∙ z));
       writes = λ w row offset width value left after r told c z.
           let (a, (x, t)) = call-writes w row u offset width value left after r told c in
-          let (opcode, at, done, q) = write-1 a (sym (t .1) ∙ z) in
-          m .never-1 .writes w (map actionIn row) offset width value _ _ x opcode at done q;
+          let (opcode, at, done, actions, q) = write-1 a (sym (t .1) ∙ z) in
+          m .never-1 .writes w (map actionIn row) offset width value _ _ x opcode at done actions q;
     }
 
 -- THE THEOREMS.
 pub calls-in-force : {k : ItsConfig} {u : ItsState} {h : List Command} → LedByCalls k u h → CallsInForce k u h
 calls-in-force l = calls-told (mappings-in-force (led-by-calls l))
 
-pub call-actions-given : {k : ItsConfig} {u : ItsState} {h : List Command} → LedByCalls k u h → OfCallsTo u (CallActionsGiven h)
+pub call-actions-given : {k : ItsConfig} {u : ItsState} {h : List Command} → LedByCalls k u h → OfCallsTo u (λ w u after r told. CallActionsGiven h w u after told)
 call-actions-given {u = u} {h = h} l w row offset width value left after r told c =
     let (a, (x, t)) = call-writes w row u offset width value left after r told c in
     actions-told h w u left after r told a t (actions-given (led-by-calls l) w (map actionIn row) offset width value _ _ x)

@@ -1,14 +1,15 @@
--- 01'S EXAMPLE is a run of calls as demand 3 speaks of, by the entries and by the C calls: every answer is computed from the definitions, and so are the
--- commands that each write passed.
+-- 01'S EXAMPLE, AND ITS LAST CORNER after it, are a run of calls as demand 3 speaks of, by the entries and by the C calls: every answer is computed from
+-- the definitions, and so are the commands that each write passed.
 -- Assumes nothing.
 use Prim.Native.Nat.{ℕ}
 use mathlib.Core.Path.{refl}
 use mathlib.Core.List.{[], _∷_}
 use Rattle.model.specs.declared.ItsState.{ItsState}
-use Rattle.model.specs.declared.Refusal.the-variants.{ResourceNotFound}
+use Rattle.model.specs.declared.Command.the-variants.{Int}
+use Rattle.model.specs.declared.Refusal.the-variants.{OpcodeUnknown, ResourceNotFound}
 use Rattle.model.specs.declared.Verdict.the-variants.{Accepted}
 use Rattle.model.specs.declared.ReadAnswer.the-variants.{Value}
-use Rattle.model.specs.declared.WriteAnswer.the-variants.{Taken}
+use Rattle.model.specs.declared.WriteAnswer.the-variants.{Taken, NotTaken}
 use Rattle.model.specs.declared.TranslateAnswer.the-variants.{Delivered, NotDelivered}
 use Rattle.model.specs.Arm.{GITS-CTLR, GITS-CBASER, GITS-CWRITER, GITS-CREADR}
 use Rattle.model.specs.Keys.{delivery}
@@ -20,12 +21,12 @@ use Rattle.its.specs.Contracts.{Configures, Reads, Writes, Translates}
 use Rattle.host.specs.Calls.{processorsGiven, CallConfigures, CallReads, CallWrites, CallTranslates}
 use Rattle.guarantees.specs.MappingsInForce.{Led, begins, a-read, a-translation, a-write}
 use Rattle.guarantees.specs.CallsInForce.{LedByCalls, its-configure, its-read, its-translate, its-write}
-use Rattle.guarantees.specs.ExampleCalls.{window, row, rowLeft, numberRow, numberRowLeft, ExampleByEntries, ExampleByCalls}
+use Rattle.guarantees.specs.ExampleCalls.{window, cornerWindow, row, rowLeft, numberRow, numberRowLeft, ExampleByEntries, ExampleByCalls}
 
 abbrev after : ItsState → ℕ → ℕ → ℕ → ItsState
 after u offset width value = write window row u offset width value .written .unit
 
--- the unit configured, and after each of the three writes
+-- the unit configured, and after each of the writes
 abbrev unit₀ : ItsState
 unit₀ = fresh 65535
 
@@ -37,6 +38,9 @@ unit₂ = after unit₁ GITS-CTLR 4 1
 
 abbrev unit₃ : ItsState
 unit₃ = after unit₂ GITS-CWRITER 8 128
+
+abbrev unit₄ : ItsState
+unit₄ = write cornerWindow row unit₃ GITS-CWRITER 8 192 .written .unit
 
 -- By the entries.
 
@@ -80,6 +84,14 @@ led =
     let to₃ : Led (withLimit 65535) unit₃ exampleMet = a-write to₂ window row GITS-CWRITER 8 128 _ rowLeft wr-cwriter in
     a-translation (a-translation (a-read to₃ GITS-CREADR 8 _ rd-creadr) _ _ _ tr-5-9) _ _ _ tr-5-8
 
+wr-corner : Writes cornerWindow row unit₃ GITS-CWRITER 8 192 (record { unit = unit₄; answer = NotTaken OpcodeUnknown 14 160 1 1 }) rowLeft
+unfolding shown
+wr-corner = record { answer = refl; row-left = refl; numbers = refl }
+
+led-on : Led (withLimit 65535) unit₄ (Int (record { 0 = 5 }) (record { 0 = 9 }) ∷ exampleMet)
+unfolding shown commandOf
+led-on = a-write led cornerWindow row GITS-CWRITER 8 192 _ rowLeft wr-corner
+
 pub example-by-entries : ExampleByEntries
 example-by-entries =
     record {
@@ -96,6 +108,9 @@ example-by-entries =
       tr-5-9 = tr-5-9;
       tr-5-8 = tr-5-8;
       led = led;
+      stopped = unit₄;
+      wr-corner = wr-corner;
+      led-on = led-on;
     }
 
 -- By the C calls.
@@ -141,6 +156,14 @@ led-by-calls =
     let to₃ : LedByCalls (withLimit 65535) unit₃ exampleMet = its-write to₂ window numberRow GITS-CWRITER 8 128 unit₃ _ _ _ call-wr-cwriter in
     its-translate (its-translate (its-read to₃ GITS-CREADR 8 _ _ call-rd-creadr) 5 9 _ _ call-tr-5-9) 5 8 _ _ call-tr-5-8
 
+call-wr-corner : CallWrites cornerWindow numberRow unit₃ GITS-CWRITER 8 192 unit₄ numberRowLeft 20 (20 ∷ 14 ∷ 160 ∷ 1 ∷ 1 ∷ [])
+unfolding shown
+call-wr-corner = record { unit = refl; row = refl; row-reads = refl; told = (refl, refl) }
+
+led-on-by-calls : LedByCalls (withLimit 65535) unit₄ (Int (record { 0 = 5 }) (record { 0 = 9 }) ∷ exampleMet)
+unfolding shown commandOf
+led-on-by-calls = its-write led-by-calls cornerWindow numberRow GITS-CWRITER 8 192 unit₄ _ _ _ call-wr-corner
+
 pub example-by-calls : ExampleByCalls
 example-by-calls =
     record {
@@ -157,4 +180,7 @@ example-by-calls =
       tr-5-9 = call-tr-5-9;
       tr-5-8 = call-tr-5-8;
       led = led-by-calls;
+      stopped = unit₄;
+      wr-corner = call-wr-corner;
+      led-on = led-on-by-calls;
     }

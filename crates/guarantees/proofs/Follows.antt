@@ -106,7 +106,7 @@ module _ (w : Window) (row : List ItsAction) (u : ItsState) (offset width value 
     (sound-ring : soundUnit u ≡ true → RingKept (stores row u offset width value) r)
     (commands : CommandsKept w row u (stores row u offset width value) r left)
     (refusal : RefusalKept w u offset width value (stores row u offset width value) r)
-    (unsound : soundUnit u ≡ false → r .answer ≡ NotTaken Unsound 0 0 0) where
+    (unsound : soundUnit u ≡ false → r .answer ≡ NotTaken Unsound 0 0 0 0) where
   abbrev s : RegisterWrite
   s = stores row u offset width value
 
@@ -180,54 +180,58 @@ module _ (w : Window) (row : List ItsAction) (u : ItsState) (offset width value 
       let (unit, no-action) = none-on no-command (commands .carried) in
       (unit, commands .in-row ∙ rw no-action)
 
-  commands-from : CommandsFollow w row u s r left commands
-  commands-from = record { config = same-config (commands .carried); as-many = as-many (commands .carried); none-done = none-done }
+  commands-from : CommandsFollow w row u s r left
+  commands-from = record { config = same-config (commands .carried); as-many = commands .handed-over ∙ as-many (commands .carried); none-done = none-done }
 
   -- A REFUSAL.
 
   -- after 5
-  over-budget : IfRefused r BudgetExceeded (λ opcode at n. OnlyStored u s r)
-  over-budget opcode at n h =
-      let (runs, on, more) = refusal .only-then opcode at n h in
+  over-budget : IfRefused r BudgetExceeded (λ opcode at n k. OnlyStored u s r)
+  over-budget opcode at n k h =
+      let (runs, on, more) = refusal .only-then opcode at n k h in
       let told = refusal .too-many runs on more in
       let stored = let-run w row u offset width value (way w row u offset width value) runs in
-      ap₂ (λ v a. record { unit = v; answer = a }) (none-done (ap (λ a. writeNumbers a .done) told) .0) (told ∙ ap (λ a. NotTaken BudgetExceeded 0 a 0) (stored .reader))
+      ap₂ (λ v a. record { unit = v; answer = a }) (none-done (ap (λ a. writeNumbers a .done) told) .0) (told ∙ ap (λ a. NotTaken BudgetExceeded 0 a 0 0) (stored .reader))
 
   -- a refusal that is no command's
-  zeros : {why′ : Refusal} {told : ℕ} (why : Refusal) → r .answer ≡ NotTaken why′ 0 told 0 → IfRefused r why (λ opcode at n. (opcode ≡ 0) × (n ≡ 0) × (left ≡ row))
-  zeros {why′ = why′} {told = told} why same opcode at n h =
-      let both : NotTaken why opcode at n ≡ NotTaken why′ 0 told 0 = sym h ∙ same in
-      (ap (λ a. writeNumbers a .opcode) both, ap (λ a. writeNumbers a .done) both, none-done (ap (λ a. writeNumbers a .done) same) .1)
+  zeros : {why′ : Refusal} {told : ℕ} (why : Refusal) → r .answer ≡ NotTaken why′ 0 told 0 0 → IfRefused r why (λ opcode at n k. (opcode ≡ 0) × (n ≡ 0) × (k ≡ 0) × (left ≡ row))
+  zeros {why′ = why′} {told = told} why same opcode at n k h =
+      let both : NotTaken why opcode at n k ≡ NotTaken why′ 0 told 0 0 = sym h ∙ same in (
+        ap (λ a. writeNumbers a .opcode) both,
+        ap (λ a. writeNumbers a .done) both,
+        ap (λ a. writeNumbers a .actions) both,
+        none-done (ap (λ a. writeNumbers a .done) same) .1,
+      )
 
-  entry : (why : Refusal) → givenAt why ≡ at-entry → IfRefused r why (λ opcode at n. (opcode ≡ 0) × (n ≡ 0) × (left ≡ row))
-  entry why place opcode at n h = zeros why (ap (λ z. z .answer) (refusal .before-all why place opcode at n h)) opcode at n h
+  entry : (why : Refusal) → givenAt why ≡ at-entry → IfRefused r why (λ opcode at n k. (opcode ≡ 0) × (n ≡ 0) × (k ≡ 0) × (left ≡ row))
+  entry why place opcode at n k h = zeros why (ap (λ z. z .answer) (refusal .before-all why place opcode at n k h)) opcode at n k h
 
-  elsewhere : (why : Refusal) → (givenAt why ≡ at-command → ⊥) → IfRefused r why (λ opcode at n. (opcode ≡ 0) × (n ≡ 0) × (left ≡ row))
-  elsewhere Unsound other opcode at n h = entry Unsound refl opcode at n h
-  elsewhere RowTooShort other opcode at n h = entry RowTooShort refl opcode at n h
-  elsewhere InvalidAccess other opcode at n h = entry InvalidAccess refl opcode at n h
-  elsewhere Identification other opcode at n h = entry Identification refl opcode at n h
-  elsewhere BaseZero other opcode at n h = entry BaseZero refl opcode at n h
-  elsewhere WriterRefused other opcode at n h = zeros WriterRefused (ap (λ z. z .answer) (refusal .writer opcode at n h .1)) opcode at n h
-  elsewhere OpcodeUnknown other opcode at n h = absurd (other refl)
-  elsewhere LpiOutOfRange other opcode at n h = absurd (other refl)
-  elsewhere DeviceUnmapped other opcode at n h = absurd (other refl)
-  elsewhere EventBeyondBits other opcode at n h = absurd (other refl)
-  elsewhere CollectionUnmapped other opcode at n h = absurd (other refl)
-  elsewhere PairUnmapped other opcode at n h = absurd (other refl)
-  elsewhere ProcessorUnlisted other opcode at n h = absurd (other refl)
-  elsewhere BudgetExceeded other opcode at n h =
-      let limit = refusal .only-then opcode at n h in
-      zeros BudgetExceeded (refusal .too-many (limit .0) (limit .1) (limit .2)) opcode at n h
-  elsewhere NotInWindow other opcode at n h = absurd (other refl)
-  elsewhere ResourceNotFound other opcode at n h = absurd (other refl)
-  elsewhere TableFull other opcode at n h = absurd (other refl)
-  elsewhere LineDoesNotFit other opcode at n h = absurd (refusal .never-11 opcode at n h)
+  elsewhere : (why : Refusal) → (givenAt why ≡ at-command → ⊥) → IfRefused r why (λ opcode at n k. (opcode ≡ 0) × (n ≡ 0) × (k ≡ 0) × (left ≡ row))
+  elsewhere Unsound other opcode at n k h = entry Unsound refl opcode at n k h
+  elsewhere RowTooShort other opcode at n k h = entry RowTooShort refl opcode at n k h
+  elsewhere InvalidAccess other opcode at n k h = entry InvalidAccess refl opcode at n k h
+  elsewhere Identification other opcode at n k h = entry Identification refl opcode at n k h
+  elsewhere BaseZero other opcode at n k h = entry BaseZero refl opcode at n k h
+  elsewhere WriterRefused other opcode at n k h = zeros WriterRefused (ap (λ z. z .answer) (refusal .writer opcode at n k h .1)) opcode at n k h
+  elsewhere OpcodeUnknown other opcode at n k h = absurd (other refl)
+  elsewhere LpiOutOfRange other opcode at n k h = absurd (other refl)
+  elsewhere DeviceUnmapped other opcode at n k h = absurd (other refl)
+  elsewhere EventBeyondBits other opcode at n k h = absurd (other refl)
+  elsewhere CollectionUnmapped other opcode at n k h = absurd (other refl)
+  elsewhere PairUnmapped other opcode at n k h = absurd (other refl)
+  elsewhere ProcessorUnlisted other opcode at n k h = absurd (other refl)
+  elsewhere BudgetExceeded other opcode at n k h =
+      let limit = refusal .only-then opcode at n k h in
+      zeros BudgetExceeded (refusal .too-many (limit .0) (limit .1) (limit .2)) opcode at n k h
+  elsewhere NotInWindow other opcode at n k h = absurd (other refl)
+  elsewhere ResourceNotFound other opcode at n k h = absurd (other refl)
+  elsewhere TableFull other opcode at n k h = absurd (other refl)
+  elsewhere LineDoesNotFit other opcode at n k h = absurd (refusal .never-11 opcode at n k h)
 
   -- a command's refusal
-  module _ (why : Refusal) (place : givenAt why ≡ at-command) (opcode at n : ℕ) (h : r .answer ≡ NotTaken why opcode at n) where
+  module _ (why : Refusal) (place : givenAt why ≡ at-command) (opcode at n k : ℕ) (h : r .answer ≡ NotTaken why opcode at n k) where
     stop : StopsAt w s r why opcode at
-    stop = refusal .at-a-command why place opcode at n h
+    stop = refusal .at-a-command why place opcode at n k h
 
     number : done ≡ n
     number = ap (λ a. writeNumbers a .done) h
@@ -239,7 +243,7 @@ module _ (w : Window) (row : List ItsAction) (u : ItsState) (offset width value 
     was-sound : soundUnit u ≡ true
     was-sound =
         cases (soundUnit u) (λ t. t)
-        (λ f. let one : NotTaken why opcode at n ≡ NotTaken Unsound 0 0 0 =
+        (λ f. let one : NotTaken why opcode at n k ≡ NotTaken Unsound 0 0 0 0 =
         sym h ∙ unsound f in
         let same : Unsound ≡ why = cc in
         let two : at-entry ≡ at-command = ap givenAt same ∙ place in
@@ -252,7 +256,7 @@ module _ (w : Window) (row : List ItsAction) (u : ItsState) (offset width value 
     within =
         cases (leb (waiting (s .registers)) (u .config .«command_budget»)) (λ l. leb-true (waiting (s .registers)) (u .config .«command_budget») l)
         (λ l. let told = refusal .too-many (stop .lets-run) (stop .enabled) (leb-false (waiting (s .registers)) (u .config .«command_budget») l) in
-        let five : NotTaken why opcode at n ≡ NotTaken BudgetExceeded 0 (s .registers .creadr) 0 = sym h ∙ told in
+        let five : NotTaken why opcode at n k ≡ NotTaken BudgetExceeded 0 (s .registers .creadr) 0 0 = sym h ∙ told in
         let same : BudgetExceeded ≡ why = cc in
         let two : at-budget ≡ at-command = ap givenAt same ∙ place in
         never true refl (cc))
@@ -272,12 +276,12 @@ module _ (w : Window) (row : List ItsAction) (u : ItsState) (offset width value 
         }
 
   refusal-from : RefusalFollows w row u s r left
-  refusal-from = record { no-actions = λ why opcode at n h. rw h; elsewhere = elsewhere; by-5 = over-budget; of-a-command = command-refused }
+  refusal-from = record { elsewhere = elsewhere; by-5 = over-budget; of-a-command = command-refused }
 
 -- THE THEOREMS.
 module _ (w : Window) (row : List ItsAction) (u : ItsState) (offset width value : ℕ) (r : Written) (left : List ItsAction)
     (e : Writes w row u offset width value r left) where
-  unsound-answer : soundUnit u ≡ false → r .answer ≡ NotTaken Unsound 0 0 0
+  unsound-answer : soundUnit u ≡ false → r .answer ≡ NotTaken Unsound 0 0 0 0
   unsound-answer f = ap (λ z. z .answer) (unsound-answers-1 u f .writes w row offset width value r left e .0)
 
   pub ring-follows : soundUnit u ≡ true → RingFollows u (stores row u offset width value) r
@@ -285,9 +289,10 @@ module _ (w : Window) (row : List ItsAction) (u : ItsState) (offset width value 
       ring-from w row u offset width value r left (ring-kept w row u offset width value r left e) (commands-kept w row u offset width value r left e)
       (refusal-kept w row u offset width value r left e) unsound-answer
 
-  pub commands-follow : (kept : CommandsKept w row u (stores row u offset width value) r left) → CommandsFollow w row u (stores row u offset width value) r left kept
-  commands-follow kept =
-      commands-from w row u offset width value r left (ring-kept w row u offset width value r left e) kept (refusal-kept w row u offset width value r left e) unsound-answer
+  pub commands-follow : CommandsFollow w row u (stores row u offset width value) r left
+  commands-follow =
+      commands-from w row u offset width value r left (ring-kept w row u offset width value r left e) (commands-kept w row u offset width value r left e)
+      (refusal-kept w row u offset width value r left e) unsound-answer
 
   pub refusal-follows : RefusalFollows w row u (stores row u offset width value) r left
   refusal-follows =

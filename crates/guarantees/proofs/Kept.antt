@@ -9,9 +9,7 @@ use mathlib.Core.List.{List, []}
 use Rattle.model.specs.declared.ItsState.{ItsState}
 use Rattle.model.specs.declared.ItsAction.{ItsAction}
 use Rattle.model.specs.declared.RegisterWrite.{RegisterWrite}
-use Rattle.model.specs.declared.WriteAnswer.the-variants.{Taken}
 use Rattle.model.specs.declared.Written.{Written}
-use Rattle.model.specs.Refusal.{writeNumbers}
 use Rattle.model.specs.With.{withRegisters}
 use Rattle.model.specs.Config.{soundUnit}
 use Rattle.model.specs.Queue.{Window}
@@ -21,7 +19,7 @@ use Rattle.model.specs.Passed.{nothing}
 use Rattle.model.proofs.Cases.{never}
 use Rattle.model.proofs.Ways.{Way, checked, no-base, no-writer, quiet, based, off, over, ran, way, AsRun, as-run, run-kept, fewer, stays-sound}
 use Rattle.its.specs.Contracts.{Writes}
-use Rattle.guarantees.specs.Actions.{doneIn}
+use Rattle.guarantees.specs.Actions.{doneIn, actionsIn}
 use Rattle.guarantees.specs.Kept.{RingKept, CommandsKept}
 use Rattle.guarantees.proofs.Stopped.{commands-run}
 
@@ -49,7 +47,7 @@ module _ (w : Window) (row : List ItsAction) (u : ItsState) (offset width value 
   idle (ran s g on within) h = never true refl h
 
   -- THE COMMANDS. Where none was carried out, the row is unchanged.
-  none-carried : (s : RegisterWrite) (r : Written) → r .unit ≡ withRegisters u (s .registers) → doneIn r ≡ 0 → writeNumbers (r .answer) .actions ≡ 0 → CommandsKept w row u s r row
+  none-carried : (s : RegisterWrite) (r : Written) → r .unit ≡ withRegisters u (s .registers) → doneIn r ≡ 0 → actionsIn r ≡ 0 → CommandsKept w row u s r row
   none-carried s r v d a =
       record {
         shown = rw d;
@@ -57,7 +55,7 @@ module _ (w : Window) (row : List ItsAction) (u : ItsState) (offset width value 
         carried = rw (v, d) nothing;
         in-row = refl;
         room = refl;
-        taken = λ done actions h. let z : writeNumbers (Taken done actions) .actions ≡ 0 = rw h at a in z;
+        handed-over = a;
       }
 
   commands-by-way : {s : RegisterWrite} {o : Outcome} → Way w row u offset width value s o → CommandsKept w row u s (o .written) (o .row)

@@ -27,9 +27,9 @@ use Rattle.model.specs.Writing.{going, enables, toCtlr, registerWrite}
 use Rattle.model.specs.Entry.{stores}
 use Rattle.model.proofs.Cases.{cases, and-left, and-right}
 use Rattle.its.specs.Contracts.{Writes}
-use Rattle.guarantees.specs.Refusals.{at-command, givenAt}
+use Rattle.guarantees.specs.Refusals.{at-command, givenAt, IfRefused}
 use Rattle.guarantees.specs.Retries.{Tries, TriedLater}
-use Rattle.guarantees.proofs.Kept.{ring-kept, commands-kept}
+use Rattle.guarantees.proofs.Kept.{ring-kept}
 use Rattle.guarantees.proofs.Refused.{refusal-kept}
 use Rattle.guarantees.proofs.Follows.{commands-follow, refusal-follows}
 use Rattle.guarantees.proofs.Again.{tries-again}
@@ -72,11 +72,11 @@ module _ (u : ItsState) (row : List ItsAction) (value : ℕ) (sound : soundUnit 
 
 -- THE THEOREM.
 module _ (w : Window) (row : List ItsAction) (u : ItsState) (offset width value : ℕ) (v : Written) (left : List ItsAction) (e : Writes w row u offset width value v left) where
-  pub tried-later : (why : Refusal) → givenAt why ≡ at-command → (opcode at done : ℕ) → v .answer ≡ NotTaken why opcode at done → TriedLater w v why opcode at
-  tried-later why place opcode at done h =
-      let p = refusal-kept w row u offset width value v left e .at-a-command why place opcode at done h in
-      let q = refusal-follows w row u offset width value v left e .of-a-command why place opcode at done h in
-      let same-config = commands-follow w row u offset width value v left e (commands-kept w row u offset width value v left e) .config in
+  pub tried-later : (why : Refusal) → givenAt why ≡ at-command → IfRefused v why (λ opcode at done actions. TriedLater w v why opcode at)
+  tried-later why place opcode at done actions h =
+      let p = refusal-kept w row u offset width value v left e .at-a-command why place opcode at done actions h in
+      let q = refusal-follows w row u offset width value v left e .of-a-command why place opcode at done actions h in
+      let same-config = commands-follow w row u offset width value v left e .config in
       let sound = ring-kept w row u offset width value v left e (q .sound) .sound in
       record {
         again = λ w′ row′ offset′ width′ value′ r left′ e′ t. tries-again w′ row′ (v .unit) offset′ width′ value′ r left′ e′ t;
@@ -89,5 +89,5 @@ module _ (w : Window) (row : List ItsAction) (u : ItsState) (offset width value 
               within = rw same-config (omega (arith, q .remain, q .within));
             } in
             let (answer, row-same) = tries-again w row′ (v .unit) GITS-CTLR 4 value′ r left′ e′ (rw same t) .refuses why opcode (p .fails) in
-            (answer ∙ ap₂ (λ s a. record { unit = withRegisters (v .unit) (s .registers); answer = NotTaken why opcode a 0 }) same (sym (p .offset)), row-same);
+            (answer ∙ ap₂ (λ s a. record { unit = withRegisters (v .unit) (s .registers); answer = NotTaken why opcode a 0 0 }) same (sym (p .offset)), row-same);
       }

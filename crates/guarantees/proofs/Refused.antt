@@ -27,7 +27,7 @@ use Rattle.guarantees.proofs.Stopped.{stop-kind, stops, none-left}
 
 module _ (w : Window) (row : List ItsAction) (u : ItsState) (offset width value : ℕ) where
   too-many : {s : RegisterWrite} {o : Outcome} → Way w row u offset width value s o → s .runs ≡ true → s .registers .enabled ≡ true →
-      u .config .«command_budget» < waiting (s .registers) → o .written .answer ≡ NotTaken BudgetExceeded 0 (s .registers .creadr) 0
+      u .config .«command_budget» < waiting (s .registers) → o .written .answer ≡ NotTaken BudgetExceeded 0 (s .registers .creadr) 0 0
   too-many (checked why c) runs on more = never true refl (sym runs)
   too-many (no-base sound) runs on more = never true refl (sym runs)
   too-many (no-writer sound at) runs on more = never true refl (sym runs)
@@ -37,96 +37,96 @@ module _ (w : Window) (row : List ItsAction) (u : ItsState) (offset width value 
   too-many (over s g _ _) runs on more = refl
   too-many (ran s g _ within) runs on more = absurd (omega (arith, within, more))
 
-  only-then : {s : RegisterWrite} {o : Outcome} → Way w row u offset width value s o → (opcode at done : ℕ) → o .written .answer ≡ NotTaken BudgetExceeded opcode at done →
-      (s .runs ≡ true) × (s .registers .enabled ≡ true) × (u .config .«command_budget» < waiting (s .registers))
-  only-then (checked why c) opcode at done h =
+  only-then : {s : RegisterWrite} {o : Outcome} → Way w row u offset width value s o → IfRefused (o .written) BudgetExceeded (λ opcode at done actions.
+      (s .runs ≡ true) × (s .registers .enabled ≡ true) × (u .config .«command_budget» < waiting (s .registers)))
+  only-then (checked why c) opcode at done actions h =
       let same : why ≡ BudgetExceeded = cc in
       let place : at-budget ≡ at-entry = rw same at (subst (Only Entries) c (write-only u (length row) offset width)) in
       never true refl (cc)
-  only-then (no-base sound) opcode at done h = never true refl (cc)
-  only-then (no-writer sound cwriter) opcode at done h = never true refl (cc)
-  only-then (quiet s g) opcode at done h = never true refl (cc)
-  only-then (based s c k z) opcode at done h = never true refl (cc)
-  only-then (off s g out) opcode at done h = never true refl (cc)
-  only-then (over s g on more) opcode at done h = (refl, on, more)
-  only-then (ran s g on within) opcode at done h =
-      let place : at-budget ≡ at-command = stop-kind w row u offset width value s g on within BudgetExceeded opcode at done h in
+  only-then (no-base sound) opcode at done actions h = never true refl (cc)
+  only-then (no-writer sound cwriter) opcode at done actions h = never true refl (cc)
+  only-then (quiet s g) opcode at done actions h = never true refl (cc)
+  only-then (based s c k z) opcode at done actions h = never true refl (cc)
+  only-then (off s g out) opcode at done actions h = never true refl (cc)
+  only-then (over s g on more) opcode at done actions h = (refl, on, more)
+  only-then (ran s g on within) opcode at done actions h =
+      let place : at-budget ≡ at-command = stop-kind w row u offset width value s g on within BudgetExceeded opcode at done actions h in
       never true refl (cc)
 
   -- a refusal that is given at another place than the budget and the commands
   before-all : {s : RegisterWrite} {o : Outcome} → Way w row u offset width value s o → (why : Refusal) → givenAt why ≡ at-entry →
-      IfRefused (o .written) why (λ opcode at done. o .written ≡ record { unit = u; answer = NotTaken why 0 0 0 })
-  before-all (checked why c) why′ place opcode at done h = let same : why ≡ why′ = cc in rw same
-  before-all (no-base sound) why′ place opcode at done h = let same : BaseZero ≡ why′ = cc in rw same
-  before-all (no-writer sound cwriter) why′ place opcode at done h =
+      IfRefused (o .written) why (λ opcode at done actions. o .written ≡ record { unit = u; answer = NotTaken why 0 0 0 0 })
+  before-all (checked why c) why′ place opcode at done actions h = let same : why ≡ why′ = cc in rw same
+  before-all (no-base sound) why′ place opcode at done actions h = let same : BaseZero ≡ why′ = cc in rw same
+  before-all (no-writer sound cwriter) why′ place opcode at done actions h =
       let same : WriterRefused ≡ why′ = cc in
       let two : at-cwriter ≡ at-entry = ap givenAt same ∙ place in
       never true refl (cc)
-  before-all (quiet s g) why′ place opcode at done h = never true refl (cc)
-  before-all (based s c k z) why′ place opcode at done h = never true refl (cc)
-  before-all (off s g out) why′ place opcode at done h = never true refl (cc)
-  before-all (over s g on more) why′ place opcode at done h =
+  before-all (quiet s g) why′ place opcode at done actions h = never true refl (cc)
+  before-all (based s c k z) why′ place opcode at done actions h = never true refl (cc)
+  before-all (off s g out) why′ place opcode at done actions h = never true refl (cc)
+  before-all (over s g on more) why′ place opcode at done actions h =
       let same : BudgetExceeded ≡ why′ = cc in
       let two : at-budget ≡ at-entry = ap givenAt same ∙ place in
       never true refl (cc)
-  before-all (ran s g on within) why′ place opcode at done h =
-      let two : at-command ≡ at-entry = sym (stop-kind w row u offset width value s g on within why′ opcode at done h) ∙ place in
+  before-all (ran s g on within) why′ place opcode at done actions h =
+      let two : at-command ≡ at-entry = sym (stop-kind w row u offset width value s g on within why′ opcode at done actions h) ∙ place in
       never true refl (cc)
 
-  writer : {s : RegisterWrite} {o : Outcome} → Way w row u offset width value s o → IfRefused (o .written) WriterRefused (λ opcode at done.
-      (registerAt offset ≡ Cwriter) × (o .written ≡ record { unit = u; answer = NotTaken WriterRefused 0 (writerOf u offset width value) 0 }))
-  writer (checked why c) opcode at done h =
+  writer : {s : RegisterWrite} {o : Outcome} → Way w row u offset width value s o → IfRefused (o .written) WriterRefused (λ opcode at done actions.
+      (registerAt offset ≡ Cwriter) × (o .written ≡ record { unit = u; answer = NotTaken WriterRefused 0 (writerOf u offset width value) 0 0 }))
+  writer (checked why c) opcode at done actions h =
       let same : why ≡ WriterRefused = cc in
       let place : at-cwriter ≡ at-entry = rw same at (subst (Only Entries) c (write-only u (length row) offset width)) in
       never true refl (cc)
-  writer (no-base sound) opcode at done h = never true refl (cc)
-  writer (no-writer sound cwriter) opcode at done h = (cwriter, refl)
-  writer (quiet s g) opcode at done h = never true refl (cc)
-  writer (based s c k z) opcode at done h = never true refl (cc)
-  writer (off s g out) opcode at done h = never true refl (cc)
-  writer (over s g on more) opcode at done h = never true refl (cc)
-  writer (ran s g on within) opcode at done h =
-      let place : at-cwriter ≡ at-command = stop-kind w row u offset width value s g on within WriterRefused opcode at done h in
+  writer (no-base sound) opcode at done actions h = never true refl (cc)
+  writer (no-writer sound cwriter) opcode at done actions h = (cwriter, refl)
+  writer (quiet s g) opcode at done actions h = never true refl (cc)
+  writer (based s c k z) opcode at done actions h = never true refl (cc)
+  writer (off s g out) opcode at done actions h = never true refl (cc)
+  writer (over s g on more) opcode at done actions h = never true refl (cc)
+  writer (ran s g on within) opcode at done actions h =
+      let place : at-cwriter ≡ at-command = stop-kind w row u offset width value s g on within WriterRefused opcode at done actions h in
       never true refl (cc)
 
-  never-11 : {s : RegisterWrite} {o : Outcome} → Way w row u offset width value s o → IfRefused (o .written) LineDoesNotFit (λ opcode at done. ⊥)
-  never-11 (checked why c) opcode at done h =
+  never-11 : {s : RegisterWrite} {o : Outcome} → Way w row u offset width value s o → IfRefused (o .written) LineDoesNotFit (λ opcode at done actions. ⊥)
+  never-11 (checked why c) opcode at done actions h =
       let same : why ≡ LineDoesNotFit = cc in
       let place : at-output ≡ at-entry = rw same at (subst (Only Entries) c (write-only u (length row) offset width)) in
       never true refl (cc)
-  never-11 (no-base sound) opcode at done h = never true refl (cc)
-  never-11 (no-writer sound cwriter) opcode at done h = never true refl (cc)
-  never-11 (quiet s g) opcode at done h = never true refl (cc)
-  never-11 (based s c k z) opcode at done h = never true refl (cc)
-  never-11 (off s g out) opcode at done h = never true refl (cc)
-  never-11 (over s g on more) opcode at done h = never true refl (cc)
-  never-11 (ran s g on within) opcode at done h =
-      let place : at-output ≡ at-command = stop-kind w row u offset width value s g on within LineDoesNotFit opcode at done h in
+  never-11 (no-base sound) opcode at done actions h = never true refl (cc)
+  never-11 (no-writer sound cwriter) opcode at done actions h = never true refl (cc)
+  never-11 (quiet s g) opcode at done actions h = never true refl (cc)
+  never-11 (based s c k z) opcode at done actions h = never true refl (cc)
+  never-11 (off s g out) opcode at done actions h = never true refl (cc)
+  never-11 (over s g on more) opcode at done actions h = never true refl (cc)
+  never-11 (ran s g on within) opcode at done actions h =
+      let place : at-output ≡ at-command = stop-kind w row u offset width value s g on within LineDoesNotFit opcode at done actions h in
       never true refl (cc)
 
   -- a refusal that is given at a command
   at-a-command : {s : RegisterWrite} {o : Outcome} → Way w row u offset width value s o → (why : Refusal) → givenAt why ≡ at-command →
-      IfRefused (o .written) why (λ opcode at done. StopsAt w s (o .written) why opcode at)
-  at-a-command (checked why c) why′ place opcode at done h =
+      IfRefused (o .written) why (λ opcode at done actions. StopsAt w s (o .written) why opcode at)
+  at-a-command (checked why c) why′ place opcode at done actions h =
       let same : why ≡ why′ = cc in
       let two : at-entry ≡ at-command = sym (subst (Only Entries) c (write-only u (length row) offset width)) ∙ (ap givenAt same ∙ place) in
       never true refl (cc)
-  at-a-command (no-base sound) why′ place opcode at done h =
+  at-a-command (no-base sound) why′ place opcode at done actions h =
       let same : BaseZero ≡ why′ = cc in
       let two : at-entry ≡ at-command = ap givenAt same ∙ place in
       never true refl (cc)
-  at-a-command (no-writer sound cwriter) why′ place opcode at done h =
+  at-a-command (no-writer sound cwriter) why′ place opcode at done actions h =
       let same : WriterRefused ≡ why′ = cc in
       let two : at-cwriter ≡ at-command = ap givenAt same ∙ place in
       never true refl (cc)
-  at-a-command (quiet s g) why′ place opcode at done h = never true refl (cc)
-  at-a-command (based s c k z) why′ place opcode at done h = never true refl (cc)
-  at-a-command (off s g out) why′ place opcode at done h = never true refl (cc)
-  at-a-command (over s g on more) why′ place opcode at done h =
+  at-a-command (quiet s g) why′ place opcode at done actions h = never true refl (cc)
+  at-a-command (based s c k z) why′ place opcode at done actions h = never true refl (cc)
+  at-a-command (off s g out) why′ place opcode at done actions h = never true refl (cc)
+  at-a-command (over s g on more) why′ place opcode at done actions h =
       let same : BudgetExceeded ≡ why′ = cc in
       let two : at-budget ≡ at-command = ap givenAt same ∙ place in
       never true refl (cc)
-  at-a-command (ran s g on within) why′ place opcode at done h = stops w row u offset width value s g on within why′ opcode at done h
+  at-a-command (ran s g on within) why′ place opcode at done actions h = stops w row u offset width value s g on within why′ opcode at done actions h
 
   none-waits : {s : RegisterWrite} {o : Outcome} → Way w row u offset width value s o → (done actions : ℕ) → o .written .answer ≡ Taken done actions →
       s .runs ≡ true → s .registers .enabled ≡ true → o .written .unit .registers .creadr ≡ s .registers .cwriter

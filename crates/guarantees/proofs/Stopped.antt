@@ -5,8 +5,6 @@ use native.Mathlib.Omega.{arith}
 use mathlib.Core.Path.{_≡_, refl, sym, ap, _∙_}
 use mathlib.Core.Bool.{true}
 use mathlib.Core.List.{List}
-use mathlib.Core.Option.{Option, none, some}
-use lib.ListN.{length}
 use Rattle.model.specs.declared.ItsRegisters.{ItsRegisters}
 use Rattle.model.specs.declared.ItsState.{ItsState}
 use Rattle.model.specs.declared.ItsAction.{ItsAction}
@@ -14,27 +12,21 @@ use Rattle.model.specs.declared.Refusal.{Refusal}
 use Rattle.model.specs.declared.WriteAnswer.the-variants.{Taken, NotTaken}
 use Rattle.model.specs.Refusal.{writeNumbers}
 use Rattle.model.specs.With.{withRegisters}
-use Rattle.model.specs.Queue.{Window, waiting, Stop, Ran, run}
+use Rattle.model.specs.Queue.{Window, waiting, Ran, run}
 use Rattle.model.specs.Writing.{going}
 use Rattle.model.specs.Entry.{answerOf, afterRun}
 use Rattle.model.specs.Passed.{ringOffset, commandsPassed}
-use Rattle.model.proofs.Cases.{never}
 use Rattle.model.proofs.Ring.{reader-below}
 use Rattle.model.proofs.Waiting.{waiting-all}
 use Rattle.model.proofs.Turns.{passed-same}
 use Rattle.model.proofs.Runs.{RunKeeps, run-keeps}
-use Rattle.model.proofs.Answers.{answerFor, done-of, stop-of, taken-of}
+use Rattle.model.proofs.Answers.{done-of, actions-of, stop-of, taken-of}
 use Rattle.model.proofs.Ways.{Stored}
 use Rattle.guarantees.specs.Refusals.{at-command, givenAt}
 use Rattle.guarantees.specs.Kept.{CommandsKept, StopsAt}
 use Rattle.guarantees.proofs.Reasons.{staying}
 use Rattle.guarantees.proofs.Counted.{as-many, no-more, fits}
 use Rattle.guarantees.proofs.Remaining.{waiting-after}
-
--- what is handed over where the write is taken
-count-of : (q : Ran) (o : Option Stop) (done actions : ℕ) → answerFor q o ≡ Taken done actions → actions ≡ length (q .actions)
-count-of q none done actions h = cc
-count-of q (some s) done actions h = never true refl (cc)
 
 module _ (w : Window) (row : List ItsAction) (u : ItsState) (offset width value : ℕ) (s : ItsRegisters) (g : Stored w row u offset width value s)
     (on : s .enabled ≡ true) (within : waiting s ≤ u .config .«command_budget») where
@@ -49,13 +41,13 @@ module _ (w : Window) (row : List ItsAction) (u : ItsState) (offset width value 
   passed n = sym (passed-same w s (u .registers) (g .base) (g .reader) n)
 
   -- It stopped: the command on which CREADR stands is refused, for one of a command's reasons.
-  module _ (why : Refusal) (opcode at done : ℕ) (h : answerOf q ≡ NotTaken why opcode at done) where
+  module _ (why : Refusal) (opcode at done actions : ℕ) (h : answerOf q ≡ NotTaken why opcode at done actions) where
     pub stop-kind : givenAt why ≡ at-command
-    stop-kind = staying (q .unit) w why opcode (keeps .refused _ (stop-of q (q .stopped) why opcode at done h .0)) .0
+    stop-kind = staying (q .unit) w why opcode (keeps .refused _ (stop-of q (q .stopped) why opcode at done actions h .0)) .0
 
     pub stops : StopsAt w (going s) (afterRun q row .written) why opcode at
     stops =
-        let (stop, place) = stop-of q (q .stopped) why opcode at done h in
+        let (stop, place) = stop-of q (q .stopped) why opcode at done actions h in
         let remain : waiting (q .unit .registers) ≡ waiting s - q .done = rw (keeps .registers) (waiting-after s (g .ring) (q .done) (keeps .at-most)) in
         record {
           lets-run = refl;
@@ -81,5 +73,5 @@ module _ (w : Window) (row : List ItsAction) (u : ItsState) (offset width value 
         carried = rw (number, passed (q .done)) (keeps .carried);
         in-row = refl;
         room = fits (q .actions) row (omega (arith, count, no-more (commandsPassed w s (q .done)), keeps .shown, keeps .at-most, within, g .room));
-        taken = λ done actions h. count-of q (q .stopped) done actions h;
+        handed-over = actions-of q (q .stopped);
       }

@@ -70,16 +70,16 @@ found-reason none h = never true refl (cc)
 found-reason (some a) h = never true refl (cc)
 
 write-reason : (w : Window) (row : List ItsAction) (u : ItsState) (offset width value : ℕ) {s : RegisterWrite} {o : Outcome} → Way w row u offset width value s o →
-    soundUnit u ≡ true → IfRefused (o .written) Unsound (λ opcode at done. ⊥)
-write-reason w row u offset width value (checked why c) sound opcode at done h = subst (Only NotOne) c (sound-only u (length row) offset width sound) (cc)
-write-reason w row u offset width value (no-base _) sound opcode at done h = never true refl (cc)
-write-reason w row u offset width value (no-writer _ cwriter) sound opcode at done h = never true refl (cc)
-write-reason w row u offset width value (quiet s g) sound opcode at done h = never true refl (cc)
-write-reason w row u offset width value (based s c k z) sound opcode at done h = never true refl (cc)
-write-reason w row u offset width value (off s g out) sound opcode at done h = never true refl (cc)
-write-reason w row u offset width value (over s g on more) sound opcode at done h = never true refl (cc)
-write-reason w row u offset width value (ran s g on within) sound opcode at done h =
-    let place : at-entry ≡ at-command = stop-kind w row u offset width value s g on within Unsound opcode at done h in
+    soundUnit u ≡ true → IfRefused (o .written) Unsound (λ opcode at done actions. ⊥)
+write-reason w row u offset width value (checked why c) sound opcode at done actions h = subst (Only NotOne) c (sound-only u (length row) offset width sound) (cc)
+write-reason w row u offset width value (no-base _) sound opcode at done actions h = never true refl (cc)
+write-reason w row u offset width value (no-writer _ cwriter) sound opcode at done actions h = never true refl (cc)
+write-reason w row u offset width value (quiet s g) sound opcode at done actions h = never true refl (cc)
+write-reason w row u offset width value (based s c k z) sound opcode at done actions h = never true refl (cc)
+write-reason w row u offset width value (off s g out) sound opcode at done actions h = never true refl (cc)
+write-reason w row u offset width value (over s g on more) sound opcode at done actions h = never true refl (cc)
+write-reason w row u offset width value (ran s g on within) sound opcode at done actions h =
+    let place : at-entry ≡ at-command = stop-kind w row u offset width value s g on within Unsound opcode at done actions h in
     never true refl (cc)
 
 pub sound-never-1 : (u : ItsState) → soundUnit u ≡ true → NeverOne u
@@ -89,6 +89,6 @@ sound-never-1 u sound =
       reads = λ offset width r e h.
           read-reason NotOne (checkRead (u .config) (u .registers) offset width) _ (sound-read u offset width sound) Unsound (sym (e .answer) ∙ h) refl;
       translates = λ d e r q h. found-reason (deliveryIn u d e) (rw sound at (sym (q .answer) ∙ h));
-      writes = λ w row offset width value r left e opcode at done h.
-          write-reason w row u offset width value (way w row u offset width value) sound opcode at done (ap (λ z. z .answer) (sym (e .answer)) ∙ h);
+      writes = λ w row offset width value r left e opcode at done actions h.
+          write-reason w row u offset width value (way w row u offset width value) sound opcode at done actions (ap (λ z. z .answer) (sym (e .answer)) ∙ h);
     }

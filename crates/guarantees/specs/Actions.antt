@@ -14,7 +14,6 @@ use Rattle.model.specs.declared.ItsState.{ItsState}
 use Rattle.model.specs.declared.ItsAction.{ItsAction}
 use Rattle.model.specs.declared.Command.{Command}
 use Rattle.model.specs.declared.Command.the-variants.{Mapd, Mapc, Mapti, Mapi, Movi, Int, Clear, Discard, Inv, Invall, Sync}
-use Rattle.model.specs.declared.WriteAnswer.the-variants.{Taken}
 use Rattle.model.specs.declared.Written.{Written}
 use Rattle.model.specs.Refusal.{writeNumbers}
 use Rattle.model.specs.Queue.{Window}
@@ -25,6 +24,10 @@ use Rattle.host.specs.Calls.{actionIn}
 -- how many commands were done, as the answer says
 abbrev pub doneIn : Written → ℕ
 doneIn r = writeNumbers (r .answer) .done
+
+-- how many actions are handed over, as the answer says
+abbrev pub actionsIn : Written → ℕ
+actionsIn r = writeNumbers (r .answer) .actions
 
 -- the commands that a write passed, the last one first: read from the window at the old CREADR and on, as many as were done
 abbrev pub passedBy : Window → ItsState → Written → List Command
@@ -71,17 +74,17 @@ pub data ActionsOf (h : List Command) : List Command → List ItsAction → Type
   -- another command adds none
   another : {g : List Command} {handed : List ItsAction} → ActionsOf h g handed → (x : Command) → handsOver x ≡ 0 → ActionsOf h (x ∷ g) handed
 
--- What a write leaves in the row. h are the commands carried out before it, u is the unit that it was made to, r what it answered, and left the row
--- afterwards.
+-- What a write hands over, refused or not (02, A2). h are the commands carried out before it, u is the unit that it was made to, r what it answered, and
+-- left the row afterwards.
 pub record ActionsGiven (h : List Command) (w : Window) (u : ItsState) (r : Written) (left : List ItsAction) : Type 0 where
-  -- refused or not, the row's first k records are the actions of the k INT and CLEAR that it passed
-  pub in-row : ActionsOf h (passedBy w u r) (take (intsAndClears (passedBy w u r)) left)
-  -- a write that is taken hands over exactly those
-  pub handed-over : (done actions : ℕ) → r .answer ≡ Taken done actions → ActionsOf h (passedBy w u r) (take actions left)
+  -- the row's first records, as many as the answer says, are the actions of the INT and CLEAR that it passed
+  pub handed-over : ActionsOf h (passedBy w u r) (take (actionsIn r) left)
+  -- and the answer says k, the number of those INT and CLEAR
+  pub as-many : actionsIn r ≡ intsAndClears (passedBy w u r)
 
--- The same of a call of its_write, which leaves the numbers after in the row, returns r and tells the numbers told.
-pub record CallActionsGiven (h : List Command) (w : Window) (u : ItsState) (after : List ℕ) (r : ℕ) (told : List ℕ) : Type 0 where
-  -- refused or not, the row's first k numbers are the actions of the k INT and CLEAR that it passed
-  pub in-row : ActionsOf h (passedTold w u told) (map actionIn (take (intsAndClears (passedTold w u told)) after))
-  -- a call that is not refused hands over exactly those: as many as the fifth of the numbers told says
-  pub handed-over : r ≡ 0 → ActionsOf h (passedTold w u told) (map actionIn (take (getD told 4 0) after))
+-- The same of a call of its_write, refused or not, which leaves the numbers after in the row and tells the numbers told.
+pub record CallActionsGiven (h : List Command) (w : Window) (u : ItsState) (after : List ℕ) (told : List ℕ) : Type 0 where
+  -- the row's first numbers, as many as the fifth of the numbers told says, are the actions of the INT and CLEAR that it passed
+  pub handed-over : ActionsOf h (passedTold w u told) (map actionIn (take (getD told 4 0) after))
+  -- and that number is k, the number of those INT and CLEAR
+  pub as-many : getD told 4 0 ≡ intsAndClears (passedTold w u told)

@@ -1,11 +1,10 @@
--- WHAT FOLLOWS from what a write keeps (Kept), in sentences of 01: nothing more is asked of a write here. Behind each sentence stand the fields that it
+-- WHAT FOLLOWS from what a write keeps (Kept), in sentences of 01 and 02: nothing more is asked of a write here. Behind each sentence stand the fields that it
 -- follows from. The names of parameters are those of Kept.antt; "what is stored" is what model: `Entry.stores` says of s.
 -- Assumes nothing.
 use Prim.Native.Nat.{ℕ, _-_, _/_, _≤_, _<_}
 use mathlib.Core.Path.{_≡_}
 use mathlib.Core.Bool.{true, false}
 use mathlib.Core.List.{List}
-use lib.ListN.{length}
 use Rattle.model.specs.declared.ItsState.{ItsState}
 use Rattle.model.specs.declared.ItsAction.{ItsAction}
 use Rattle.model.specs.declared.RegisterWrite.{RegisterWrite}
@@ -15,15 +14,13 @@ use Rattle.model.specs.declared.WriteAnswer.the-variants.{NotTaken}
 use Rattle.model.specs.declared.Written.{Written}
 use Rattle.model.specs.Choose.{ifFound}
 use Rattle.model.specs.Arm.{command-size}
-use Rattle.model.specs.Refusal.{writeNumbers}
 use Rattle.model.specs.With.{withRegisters, withReader}
 use Rattle.model.specs.Config.{queueSize, soundUnit}
 use Rattle.model.specs.Decode.{opcodeOf}
 use Rattle.model.specs.Queue.{Window, commandAt, commandAddress, distance, waiting}
 use Rattle.model.specs.Passed.{ringOffset}
-use Rattle.guarantees.specs.Actions.{doneIn, passedBy, intsAndClears}
+use Rattle.guarantees.specs.Actions.{doneIn, actionsIn, passedBy, intsAndClears}
 use Rattle.guarantees.specs.Refusals.{at-command, givenAt, IfRefused}
-use Rattle.guarantees.specs.Kept.{CommandsKept}
 
 -- DONE IS CREADR'S ADVANCE, of a sound unit, also one that was built by hand.
 pub record RingFollows (u : ItsState) (s : RegisterWrite) (r : Written) : Type 0 where
@@ -40,13 +37,13 @@ pub record RingFollows (u : ItsState) (s : RegisterWrite) (r : Written) : Type 0
   -- no more was done than the budget allows (at-most, not-run, disabled, too-many)
   pub in-budget : doneIn r ≤ u .config .«command_budget»
 
--- THE COMMANDS, of every unit; kept is what is kept of them.
-pub record CommandsFollow (w : Window) (row : List ItsAction) (u : ItsState) (s : RegisterWrite) (r : Written) (left : List ItsAction)
-    (kept : CommandsKept w row u s r left) : Type 0 where
+-- THE COMMANDS, of every unit.
+pub record CommandsFollow (w : Window) (row : List ItsAction) (u : ItsState) (s : RegisterWrite) (r : Written) (left : List ItsAction) : Type 0 where
   -- the configuration never changes (carried)
   pub config : r .unit .config ≡ u .config
-  -- there is one action for each INT and CLEAR (carried)
-  pub as-many : length (kept .handed) ≡ intsAndClears (passedBy w u r)
+  -- actions is k, the number of INT and CLEAR carried out in this write, refused or not: none is of the refused command, none of an earlier write
+  -- (02, A2; carried, handed-over)
+  pub as-many : actionsIn r ≡ intsAndClears (passedBy w u r)
   -- where none was done, nothing changed but what the write stores, and the row is as it was (carried, in-row)
   pub none-done : doneIn r ≡ 0 → (r .unit ≡ withRegisters u (s .registers)) × (left ≡ row)
 
@@ -66,17 +63,16 @@ pub record CommandRefused (w : Window) (u : ItsState) (s : RegisterWrite) (r : W
   -- opcode is the command's, and 0 where it was not read (fails)
   pub opcode-read : opcode ≡ ifFound (commandAt w (commandAddress (r .unit .registers) (r .unit .registers .creadr))) opcodeOf 0
 
--- more commands wait than the budget: only what the write stores changed; the offset is CREADR, which did not move
+-- more commands wait than the budget: only what the write stores changed; the offset is CREADR, which did not move, and nothing is handed over
 abbrev pub OnlyStored : ItsState → RegisterWrite → Written → Type 0
-OnlyStored u s r = r ≡ record { unit = withRegisters u (s .registers); answer = NotTaken BudgetExceeded 0 (u .registers .creadr) 0 }
+OnlyStored u s r = r ≡ record { unit = withRegisters u (s .registers); answer = NotTaken BudgetExceeded 0 (u .registers .creadr) 0 0 }
 
 -- A REFUSAL, of every unit.
 pub record RefusalFollows (w : Window) (row : List ItsAction) (u : ItsState) (s : RegisterWrite) (r : Written) (left : List ItsAction) : Type 0 where
-  -- actions is 0 with any refusal
-  pub no-actions : (why : Refusal) → IfRefused r why (λ opcode at done. writeNumbers (r .answer) .actions ≡ 0)
-  -- unless it is a command's, no command was done, and the row is as it was (before-all, writer, too-many, none-done)
-  pub elsewhere : (why : Refusal) → (givenAt why ≡ at-command → ⊥) → IfRefused r why (λ opcode at done. (opcode ≡ 0) × (done ≡ 0) × (left ≡ row))
+  -- unless it is a command's, no command was done, nothing is handed over, and the row is as it was (before-all, writer, too-many, none-done)
+  pub elsewhere : (why : Refusal) → (givenAt why ≡ at-command → ⊥) → IfRefused r why (λ opcode at done actions.
+      (opcode ≡ 0) × (done ≡ 0) × (actions ≡ 0) × (left ≡ row))
   -- after 5 the register write stays stored, and nothing else changed (only-then, too-many, none-done)
-  pub by-5 : IfRefused r BudgetExceeded (λ opcode at done. OnlyStored u s r)
+  pub by-5 : IfRefused r BudgetExceeded (λ opcode at done actions. OnlyStored u s r)
   -- and of a refused command
-  pub of-a-command : (why : Refusal) → givenAt why ≡ at-command → IfRefused r why (λ opcode at done. CommandRefused w u s r opcode done)
+  pub of-a-command : (why : Refusal) → givenAt why ≡ at-command → IfRefused r why (λ opcode at done actions. CommandRefused w u s r opcode done)

@@ -20,7 +20,7 @@ use Rattle.model.specs.Config.{soundUnit}
 use Rattle.model.specs.Queue.{Window, waiting, stays, turn}
 use Rattle.model.specs.Register.{registerAt}
 use Rattle.model.specs.Passed.{CarriedOut}
-use Rattle.guarantees.specs.Actions.{doneIn, passedBy}
+use Rattle.guarantees.specs.Actions.{doneIn, actionsIn, passedBy}
 use Rattle.guarantees.specs.Refusals.{at-entry, at-command, givenAt, writerOf, IfRefused}
 
 -- THE RING, of a sound unit, also one that was built by hand. That done is CREADR's advance follows (Follows.RingFollows).
@@ -45,8 +45,8 @@ pub record CommandsKept (w : Window) (row : List ItsAction) (u : ItsState) (s : 
   pub in-row : left ≡ handed ++ drop (length handed) row
   -- the row has room for them: it has as many records as before
   pub room : length left ≡ length row
-  -- a write that is taken hands over all of them
-  pub taken : (done actions : ℕ) → r .answer ≡ Taken done actions → actions ≡ length handed
+  -- the write hands over all of them, refused or not (02, A2): actions is their number
+  pub handed-over : actionsIn r ≡ length handed
 
 -- The command on which CREADR stands was refused, the first one or a later one: the reason why, the opcode and the offset answered are its own.
 pub record StopsAt (w : Window) (s : RegisterWrite) (r : Written) (why : Refusal) (opcode at : ℕ) : Type 0 where
@@ -62,21 +62,22 @@ pub record StopsAt (w : Window) (s : RegisterWrite) (r : Written) (why : Refusal
 
 -- REFUSAL AND ANSWER, of every unit, by the place where a refusal is given (Refusals.givenAt). offset, width and value are those of the write.
 pub record RefusalKept (w : Window) (u : ItsState) (offset width value : ℕ) (s : RegisterWrite) (r : Written) : Type 0 where
-  -- 1, 10, 2, 3, 4: the unit is unchanged; opcode, offset and done are 0
-  pub before-all : (why : Refusal) → givenAt why ≡ at-entry → IfRefused r why (λ opcode at done. r ≡ record { unit = u; answer = NotTaken why 0 0 0 })
+  -- 1, 10, 2, 3, 4: the unit is unchanged; opcode, offset, done and actions are 0
+  pub before-all : (why : Refusal) → givenAt why ≡ at-entry → IfRefused r why (λ opcode at done actions. r ≡ record { unit = u; answer = NotTaken why 0 0 0 0 })
   -- 7, of CWRITER: the same, but the offset is the refused writer
-  pub writer : IfRefused r WriterRefused (λ opcode at done.
-      (registerAt offset ≡ Cwriter) × (r ≡ record { unit = u; answer = NotTaken WriterRefused 0 (writerOf u offset width value) 0 }))
-  -- 5 is tested once, before any command: where more wait than the budget, that is the answer; the offset is CREADR, and nothing is done
+  pub writer : IfRefused r WriterRefused (λ opcode at done actions.
+      (registerAt offset ≡ Cwriter) × (r ≡ record { unit = u; answer = NotTaken WriterRefused 0 (writerOf u offset width value) 0 0 }))
+  -- 5 is tested once, before any command: where more wait than the budget, that is the answer; the offset is CREADR, nothing is done and nothing
+  -- handed over
   pub too-many : s .runs ≡ true → s .registers .enabled ≡ true → u .config .«command_budget» < waiting (s .registers) →
-      r .answer ≡ NotTaken BudgetExceeded 0 (s .registers .creadr) 0
+      r .answer ≡ NotTaken BudgetExceeded 0 (s .registers .creadr) 0 0
   -- and 5 is answered only then
-  pub only-then : IfRefused r BudgetExceeded (λ opcode at done.
+  pub only-then : IfRefused r BudgetExceeded (λ opcode at done actions.
       (s .runs ≡ true) × (s .registers .enabled ≡ true) × (u .config .«command_budget» < waiting (s .registers)))
   -- 20 to 26, 6, 8 and 9: of a command
-  pub at-a-command : (why : Refusal) → givenAt why ≡ at-command → IfRefused r why (λ opcode at done. StopsAt w s r why opcode at)
+  pub at-a-command : (why : Refusal) → givenAt why ≡ at-command → IfRefused r why (λ opcode at done actions. StopsAt w s r why opcode at)
   -- 11 is the C call's: no write answers it
-  pub never-11 : IfRefused r LineDoesNotFit (λ opcode at done. ⊥)
+  pub never-11 : IfRefused r LineDoesNotFit (λ opcode at done actions. ⊥)
   -- a write that is taken and lets an enabled unit run leaves no command waiting
   pub taken : (done actions : ℕ) → r .answer ≡ Taken done actions → s .runs ≡ true → s .registers .enabled ≡ true →
       r .unit .registers .creadr ≡ s .registers .cwriter

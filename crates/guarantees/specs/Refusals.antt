@@ -70,9 +70,9 @@ givenAt TableFull = at-command
 -- 11
 givenAt LineDoesNotFit = at-output
 
--- `IfRefused r why P`: where a write that answers r is refused for the reason why, P holds of the opcode, the offset and done that it answers
-abbrev pub IfRefused : Written → Refusal → (ℕ → ℕ → ℕ → Type 0) → Type 0
-IfRefused r why P = (opcode at done : ℕ) → r .answer ≡ NotTaken why opcode at done → P opcode at done
+-- `IfRefused r why P`: where a write that answers r is refused for the reason why, P holds of the opcode, the offset, done and actions that it answers
+abbrev pub IfRefused : Written → Refusal → (ℕ → ℕ → ℕ → ℕ → Type 0) → Type 0
+IfRefused r why P = (opcode at done actions : ℕ) → r .answer ≡ NotTaken why opcode at done actions → P opcode at done actions
 
 -- the writer that a CWRITER write brings: the merged value; with a nonzero CBASER its bits 19:0
 abbrev pub writerOf : ItsState → ℕ → ℕ → ℕ → ℕ
@@ -98,9 +98,9 @@ pub record AnswersOne (u : ItsState) : Type 0 where
   pub reads : (offset width : ℕ) (r : ReadAnswer) → Reads u offset width r → r ≡ NoValue Unsound
   -- to every translation
   pub translates : (d : ItsDeviceId) (e : EventId) (r : TranslateAnswer) → Translates u d e r → r ≡ NotDelivered Unsound
-  -- to every write, with opcode, offset and done 0; unit and row are unchanged
+  -- to every write, with opcode, offset, done and actions 0; unit and row are unchanged
   pub writes : (w : Window) (row : List ItsAction) (offset width value : ℕ) (r : Written) (left : List ItsAction) → Writes w row u offset width value r left →
-      (r ≡ record { unit = u; answer = NotTaken Unsound 0 0 0 }) × (left ≡ row)
+      (r ≡ record { unit = u; answer = NotTaken Unsound 0 0 0 0 }) × (left ≡ row)
 
 -- THE UNIT NEVER ANSWERS 1. A sound unit does not.
 pub record NeverOne (u : ItsState) : Type 0 where
@@ -110,4 +110,4 @@ pub record NeverOne (u : ItsState) : Type 0 where
   pub translates : (d : ItsDeviceId) (e : EventId) (r : TranslateAnswer) → Translates u d e r → r ≡ NotDelivered Unsound → ⊥
   -- to no write
   pub writes : (w : Window) (row : List ItsAction) (offset width value : ℕ) (r : Written) (left : List ItsAction) → Writes w row u offset width value r left →
-      IfRefused r Unsound (λ opcode at done. ⊥)
+      IfRefused r Unsound (λ opcode at done actions. ⊥)

@@ -44,9 +44,9 @@ pub record BeginsWith (w : Window) (u : ItsState) (s : RegisterWrite) (r : Writt
 
 -- Such a write begins with the command on which CREADR stands, as its own window shows it.
 pub record TriesAgain (w : Window) (row : List ItsAction) (u : ItsState) (s : RegisterWrite) (r : Written) (left : List ItsAction) : Type 0 where
-  -- where the unit refuses it, that is the answer: its reason and opcode, CREADR, nothing done; only the register written changes
+  -- where the unit refuses it, that is the answer: its reason and opcode, CREADR, nothing done and nothing handed over; only the register written changes
   pub refuses : (why : Refusal) (opcode : ℕ) → turn w u ≡ stays why opcode →
-      (r ≡ record { unit = withRegisters u (s .registers); answer = NotTaken why opcode (u .registers .creadr) 0 }) × (left ≡ row)
+      (r ≡ record { unit = withRegisters u (s .registers); answer = NotTaken why opcode (u .registers .creadr) 0 0 }) × (left ≡ row)
   -- where the unit accepts it, it is the first command carried out
   pub accepts : (x : Command) → turn w u ≡ passes x → BeginsWith w u s r x
 
@@ -58,4 +58,4 @@ pub record TriedLater (w : Window) (v : Written) (why : Refusal) (opcode offset 
   -- with the same window, a CTLR write that enables is refused in the same way, and leaves unit and row as they are
   pub same : (row : List ItsAction) (value : ℕ) (r : Written) (left : List ItsAction) → Writes w row (v .unit) GITS-CTLR 4 value r left →
       v .unit .config .«command_budget» ≤ length row → enables value ≡ true →
-      (r ≡ record { unit = v .unit; answer = NotTaken why opcode offset 0 }) × (left ≡ row)
+      (r ≡ record { unit = v .unit; answer = NotTaken why opcode offset 0 0 }) × (left ≡ row)

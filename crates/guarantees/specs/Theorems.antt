@@ -18,7 +18,6 @@ use Rattle.model.specs.declared.Refusal.the-variants.{Unsound, WriterRefused}
 use Rattle.model.specs.declared.Verdict.the-variants.{Refused}
 use Rattle.model.specs.declared.ReadAnswer.{ReadAnswer}
 use Rattle.model.specs.declared.WriteAnswer.{WriteAnswer}
-use Rattle.model.specs.declared.WriteAnswer.the-variants.{NotTaken}
 use Rattle.model.specs.declared.TranslateAnswer.{TranslateAnswer}
 use Rattle.model.specs.declared.Configured.{Configured}
 use Rattle.model.specs.declared.Written.{Written}
@@ -58,10 +57,10 @@ pub record Theorems : Type 0 where
   -- NEITHER IS EMPTY: 01's example is such a run (ExampleCalls)
   pub example-by-entries : ExampleByEntries
   pub example-by-calls : ExampleByCalls
-  -- EACH ACTION HANDED OVER IS WHAT THE HISTORY GIVES (Actions): of every write to a unit to which calls led
+  -- EACH ACTION HANDED OVER IS WHAT THE HISTORY GIVES (Actions): of every write, refused or not, to a unit to which calls led
   pub actions-given : {k : ItsConfig} {u : ItsState} {h : List Command} → Led k u h → OfWritesTo u (λ w row offset width value r left. ActionsGiven h w u r left)
   -- and of every call of its_write
-  pub call-actions-given : {k : ItsConfig} {u : ItsState} {h : List Command} → LedByCalls k u h → OfCallsTo u (CallActionsGiven h)
+  pub call-actions-given : {k : ItsConfig} {u : ItsState} {h : List Command} → LedByCalls k u h → OfCallsTo u (λ w u after r told. CallActionsGiven h w u after told)
   -- the history gives one list of actions
   pub actions-firm : (h g : List Command) → Firm (List ItsAction) (ActionsOf h g)
   -- FIRMNESS (Firm): of every public entry, at all inputs, an answer meets the contract
@@ -77,21 +76,22 @@ pub record Theorems : Type 0 where
       (a : WriteAnswer) × (Writes w (map actionIn row) u offset width value (record { unit = left; answer = a }) (map actionIn after) × Tells (numbersOfWrite a) r told)
   -- WHAT A WRITE KEEPS (Kept). The ring, on every sound unit, also one that was built by hand
   pub ring-kept : OfEveryWrite (λ w row u offset width value r left. soundUnit u ≡ true → RingKept (stores row u offset width value) r)
-  -- the commands, on every unit: those carried out are those that the window shows, and the row holds their actions
+  -- the commands, on every unit: those carried out are those that the window shows, the row holds their actions, and the answer says how many
   pub commands-kept : OfEveryWrite (λ w row u offset width value r left. CommandsKept w row u (stores row u offset width value) r left)
   -- refusal and answer, on every unit
   pub refusal-kept : OfEveryWrite (λ w row u offset width value r left. RefusalKept w u offset width value (stores row u offset width value) r)
   -- WHAT FOLLOWS FROM THE THREE (Follows). Done is CREADR's advance, on every sound unit
   pub ring-follows : OfEveryWrite (λ w row u offset width value r left. soundUnit u ≡ true → RingFollows u (stores row u offset width value) r)
   -- of the commands, on every unit
-  pub commands-follow : OfEveryWrite (λ w row u offset width value r left.
-      (kept : CommandsKept w row u (stores row u offset width value) r left) → CommandsFollow w row u (stores row u offset width value) r left kept)
+  pub commands-follow : OfEveryWrite (λ w row u offset width value r left. CommandsFollow w row u (stores row u offset width value) r left)
   -- of a refusal, on every unit
   pub refusal-follows : OfEveryWrite (λ w row u offset width value r left. RefusalFollows w row u (stores row u offset width value) r left)
   -- WHAT A NUMBER TELLS (02, A1). 20 to 26 are a command's seven reasons, in A1's order, and 7 is CWRITER's
   pub numbered : (map numberOf reasons ≡ 20 ∷ 21 ∷ 22 ∷ 23 ∷ 24 ∷ 25 ∷ 26 ∷ []) × (numberOf WriterRefused ≡ 7)
   -- and no other refusal's: two with one number are one
   pub one-reason : (a b : Refusal) → numberOf a ≡ numberOf b → a ≡ b
+  -- 0 is none: a call that returns 0 was not refused
+  pub not-zero : (why : Refusal) → numberOf why ≡ 0 → ⊥
   -- folded, each refusal has 01's number
   pub folds : (why : Refusal) → folded (numberOf why) ≡ numberIn01 why
   -- and nothing but 20 to 26 is folded
@@ -102,7 +102,7 @@ pub record Theorems : Type 0 where
   pub stops-because : (w : Window) (u : ItsState) (why : Refusal) (opcode : ℕ) → (turn w u ≡ stays why opcode) ↔ Told w u why opcode
   -- and a write that is refused at a command tells those of the one on which CREADR stands, in the unit that is left
   pub reason-told : OfEveryWrite (λ w row u offset width value r left.
-      (why : Refusal) → givenAt why ≡ at-command → IfRefused r why (λ opcode at done. Told w (r .unit) why opcode))
+      (why : Refusal) → givenAt why ≡ at-command → IfRefused r why (λ opcode at done actions. Told w (r .unit) why opcode))
   -- what a refused read leaves (Refusals)
   pub read-leaves : (u : ItsState) (offset width : ℕ) (r : ReadAnswer) → Reads u offset width r → ReadLeaves r
   -- what a refused translation leaves (Refusals)
@@ -120,4 +120,4 @@ pub record Theorems : Type 0 where
       TriesAgain w row u (stores row u offset width value) r left)
   -- after a write that was refused because of that command
   pub tried-later : OfEveryWrite (λ w row u offset width value r left.
-      (why : Refusal) → givenAt why ≡ at-command → (opcode at done : ℕ) → r .answer ≡ NotTaken why opcode at done → TriedLater w r why opcode at)
+      (why : Refusal) → givenAt why ≡ at-command → IfRefused r why (λ opcode at done actions. TriedLater w r why opcode at))

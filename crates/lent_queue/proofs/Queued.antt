@@ -23,7 +23,7 @@ module _ (w : Window) (s row : List ℕ) where
   is-off n = rw (queue-off w (unitIn s) (ne-eqb _ _ n)) (record { unit = refl; answer = refl; rows = refl })
 
   module _ (on : word s ENABLED % 2 ≡ 1) {n : ℕ} (waits : n ≡ waiting (registersIn s)) where
-    pub is-over : word s COMMAND-BUDGET % 2 ^ 32 < n → Leaves (runQueue w (unitIn s)) row (NotTaken BudgetExceeded 0 (word s CREADR) 0) s row
+    pub is-over : word s COMMAND-BUDGET % 2 ^ 32 < n → Leaves (runQueue w (unitIn s)) row (NotTaken BudgetExceeded 0 (word s CREADR) 0 0) s row
     unfolding registersIn configIn
     is-over h =
         rw (queue-over w (unitIn s) (eq-eqb _ _ on) (lt-leb (waiting (registersIn s)) (word s COMMAND-BUDGET % 2 ^ 32) (rw (← waits) h)))

@@ -129,6 +129,7 @@ pub fn process_commands(
             opcode: 0,
             offset: state[lent_tables::CREADR],
             done: 0,
+            actions: 0,
         };
     }
     run(state, address, bytes, row, count)

@@ -1,11 +1,15 @@
 -- What the answer of a write says of the run of its queue, and what becomes of the queue: it is run whole, or nothing is run.
 -- Assumes nothing.
 use Prim.Native.Nat.{ℕ}
-use mathlib.Core.Path.{_≡_, refl, ap₂}
+use mathlib.Core.Path.{_≡_, refl, sym, ap, ap₂}
 use mathlib.Core.Bool.{Bool, true, false}
+use mathlib.Core.List.{List, _∷_, map}
 use mathlib.Core.Option.{Option, none, some}
+use lib.ListN.{length, drop}
+use lib.Seq.{take-at}
 use lib.Dec.{leb}
 use Rattle.model.specs.declared.ItsState.{ItsState}
+use Rattle.model.specs.declared.ItsAction.{ItsAction}
 use Rattle.model.specs.declared.Refusal.{Refusal}
 use Rattle.model.specs.declared.Refusal.the-variants.{BudgetExceeded}
 use Rattle.model.specs.declared.WriteAnswer.{WriteAnswer}
@@ -13,7 +17,8 @@ use Rattle.model.specs.declared.WriteAnswer.the-variants.{Taken, NotTake
 use Rattle.model.specs.Choose.{if_then_else_, _or_then_}
 use Rattle.model.specs.Refusal.{writeNumbers}
 use Rattle.model.specs.Queue.{Window, waiting, Stop, Ran, ended, run, runQueue}
-use Rattle.model.specs.Entry.{answerOf}
+use Rattle.model.specs.Entry.{answerOf, afterRun}
+use Rattle.model.specs.Trace.{actionLine, writeLine, writeLines}
 use Rattle.model.proofs.Cases.{never}
 
 -- What an answer says of its run.
@@ -26,10 +31,21 @@ pub done-of : (q : Ran) (o : Option Stop) → writeNumbers (answerFor q o) .done
 done-of q none = refl
 done-of q (some s) = refl
 
-pub stop-of : (q : Ran) (o : Option Stop) (r : Refusal) (opcode offset done : ℕ) → answerFor q o ≡ NotTaken r opcode offset done →
+-- stopped or not, the actions that it made are handed over
+pub actions-of : (q : Ran) (o : Option Stop) → writeNumbers (answerFor q o) .actions ≡ length (q .actions)
+actions-of q none = refl
+actions-of q (some s) = refl
+
+-- and each of them has its line, and no other record of the row has one
+pub lines-of : (q : Ran) (row : List ItsAction) → writeLines (afterRun q row) ≡ writeLine (writeNumbers (answerOf q)) ∷ map actionLine (q .actions)
+lines-of q row =
+    ap (λ l. writeLine (writeNumbers (answerOf q)) ∷ map actionLine l)
+    (take-at (q .actions) (drop (length (q .actions)) row) (writeNumbers (answerOf q) .actions) (sym (actions-of q (q .stopped))))
+
+pub stop-of : (q : Ran) (o : Option Stop) (r : Refusal) (opcode offset done actions : ℕ) → answerFor q o ≡ NotTaken r opcode offset done actions →
     (o ≡ some (record { refusal = r; opcode = opcode })) × (offset ≡ q .unit .registers .creadr)
-stop-of q none r opcode offset done h = never true refl (cc)
-stop-of q (some s) r opcode offset done h =
+stop-of q none r opcode offset done actions h = never true refl (cc)
+stop-of q (some s) r opcode offset done actions h =
     let why : s .refusal ≡ r = cc in
     let which : s .opcode ≡ opcode = cc in
     (ap₂ (λ x y. some (record { refusal = x; opcode = y })) why which, (cc))

@@ -1,7 +1,7 @@
--- 01's example and its last corner, computed from the definitions: their bytes give their lines.
+-- 01's example, its last corner, and what a refused write hands over (02, A2), computed from the definitions: their bytes give their lines.
 -- Assumes nothing.
 use mathlib.Core.Path.{_≡_, refl}
-use Rattle.model.specs.Example.{exampleTrace, exampleLines, cornerTrace, cornerLines}
+use Rattle.model.specs.Example.{exampleTrace, exampleLines, cornerTrace, cornerLines, handedTrace, handedLines}
 use Rattle.model.proofs.Computed.{shown}
 
 pub example : shown exampleTrace ≡ exampleLines
@@ -11,3 +11,7 @@ example = refl
 pub opcode-0e : shown cornerTrace ≡ cornerLines
 unfolding shown exampleTrace exampleLines cornerTrace cornerLines
 opcode-0e = refl
+
+pub handed-before : shown handedTrace ≡ handedLines
+unfolding shown exampleTrace exampleLines handedTrace handedLines
+handed-before = refl

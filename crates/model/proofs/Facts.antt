@@ -5,15 +5,11 @@ use mathlib.Core.Bool.{true, false}
 use mathlib.Core.List.{List, [], _∷_, _++_}
 use lib.ListN.{replicate}
 use mathlib.Core.Option.{none}
-use mathlib.Core.Logic.{_⊎_, inl, inr}
 use Rattle.model.specs.declared.ItsDeviceId.{ItsDeviceId}
 use Rattle.model.specs.declared.EventId.{EventId}
 use Rattle.model.specs.declared.CollectionId.{CollectionId}
 use Rattle.model.specs.declared.Command.{Command}
 use Rattle.model.specs.declared.Command.the-variants.{Mapc, Movi, Discard}
-use Rattle.model.specs.declared.WriteAnswer.{WriteAnswer}
-use Rattle.model.specs.declared.WriteAnswer.the-variants.{Taken, NotTaken}
-use Rattle.model.specs.Refusal.{writeNumbers}
 use Rattle.model.specs.History.{partIn, pairNow}
 use Rattle.model.specs.Text.{ascii}
 use Rattle.model.specs.Trace.{fitting, outputAfter, returned}
@@ -32,11 +28,6 @@ two = record { 0 = 2 }
 
 abbrev three : CollectionId
 three = record { 0 = 3 }
-
--- actions is 0 with any refusal
-pub nothing-with-a-refusal : (a : WriteAnswer) → (writeNumbers a .refusal ≡ 0) ⊎ (writeNumbers a .actions ≡ 0)
-nothing-with-a-refusal (Taken done actions) = inl refl
-nothing-with-a-refusal (NotTaken r opcode offset done) = inr refl
 
 -- an invalid MAPC ends the pairs of its collection: they do not come back with it
 pub mapc-ends : given (mapc ∷ Mapc two (record { 0 = 1 }) false ∷ exampleMet) ≡ 0

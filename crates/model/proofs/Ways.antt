@@ -76,7 +76,7 @@ module _ (w : Window) (row : List ItsAction) (u : ItsState) (offset width value 
     off : (s : ItsRegisters) → Stored s → s .enabled ≡ false → Way (going s) (nothing-run (going s))
     -- more wait than the budget
     over : (s : ItsRegisters) → Stored s → s .enabled ≡ true → u .config .«command_budget» < waiting s →
-        Way (going s) (record { written = record { unit = withRegisters u s; answer = NotTaken BudgetExceeded 0 (s .creadr) 0 }; row = row })
+        Way (going s) (record { written = record { unit = withRegisters u s; answer = NotTaken BudgetExceeded 0 (s .creadr) 0 0 }; row = row })
     -- what waits is run
     ran : (s : ItsRegisters) → Stored s → s .enabled ≡ true → waiting s ≤ u .config .«command_budget» →
         Way (going s) (afterRun (run w (waiting s) (withRegisters u s)) row)

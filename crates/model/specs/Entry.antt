@@ -56,10 +56,13 @@ pub record Outcome : Type 0 where
   pub written : Written
   pub row : List ItsAction
 
--- what a write answers after a run: opcode is the command's, else 0; offset for 5, 6 and refused commands is CREADR; actions is the number
--- handed over, 0 with any refusal
+-- what a write answers after a run: opcode is the command's, else 0; offset for 5, 6 and refused commands is CREADR; actions is the number handed
+-- over, k: that of the actions that the run made, whether a command was refused or not (02, A2). 5 runs no command and has none
 abbrev pub answerOf : Ran → WriteAnswer
-answerOf r = ifFound (r .stopped) (λ s. NotTaken (s .refusal) (s .opcode) (r .unit .registers .creadr) (r .done)) (Taken (r .done) (length (r .actions)))
+answerOf r =
+    ifFound (r .stopped)
+    (λ s. NotTaken (s .refusal) (s .opcode) (r .unit .registers .creadr) (r .done) (length (r .actions)))
+    (Taken (r .done) (length (r .actions)))
 
 -- the row's first k records hold the actions of the k INT and CLEAR carried out, refusal or not; the others are unchanged
 abbrev pub rowAfter : List ItsAction → List ItsAction → List ItsAction

@@ -1,4 +1,4 @@
--- Document 01, "The trace": the example, its records in bytes and the lines that it prints.
+-- Document 01, "The trace": the example, its records in bytes and the lines that it prints; 01's last corner; and what a refused write hands over (02, A2).
 -- Assumes nothing.
 use Prim.Native.Nat.{ℕ, zero, suc, _/_, _%_}
 use mathlib.Core.List.{List, [], _∷_, _++_}
@@ -55,13 +55,28 @@ unfoldable pub exampleLines : List ℕ
 exampleLines =
     ascii "CF 0\nGM 0\nWR 0 0 0 0 0\nRD 0 1073741824\nWR 0 0 0 0 0\nWR 0 0 0 4 1\nAC 1 8200 1\nRD 0 128\nTR 0 8200 1\nTR 8 0 0\n"
 
--- 01's last corner. After the example, INT (5, 9) and then opcode 0E, writer 192
-unfoldable pub cornerTrace : List ℕ
-cornerTrace =
-    exampleTrace
-    ++ (((ascii "GM" ++ bytesOf 8 0x40000080) ++ (bytesOf 4 64 ++ words (0x500000003 ∷ 9 ∷ 0 ∷ 0 ∷ 0x0E ∷ 0 ∷ 0 ∷ 0 ∷ [])))
-    ++ WRs 0x88 8 192)
+-- 01's last corner: INT (5, 9) and then opcode 0E
+abbrev pub cornerCommands : List ℕ
+cornerCommands = words (0x500000003 ∷ 9 ∷ 0 ∷ 0 ∷ 0x0E ∷ 0 ∷ 0 ∷ 0 ∷ [])
 
--- gives refusal 20 (02, A1, for 01's 7), opcode 14, offset 160, done 1, actions 0
+-- after the example, writer 192
+unfoldable pub cornerTrace : List ℕ
+cornerTrace = exampleTrace ++ (((ascii "GM" ++ bytesOf 8 0x40000080) ++ (bytesOf 4 64 ++ cornerCommands)) ++ WRs 0x88 8 192)
+
+-- gives refusal 20 (02, A1, for 01's 7), opcode 14, offset 160, done 1, and the INT's action (02, A2, for 01's 0)
 unfoldable pub cornerLines : List ℕ
-cornerLines = exampleLines ++ ascii "GM 0\nWR 20 14 160 1 0\n"
+cornerLines = exampleLines ++ ascii "GM 0\nWR 20 14 160 1 1\nAC 1 8200 1\n"
+
+-- 02, A2. After the example, INT and CLEAR of (5, 9) and then INT of (5, 8), a pair that is not mapped, writer 224; CTLR, which tries that one again; and
+-- a writer that is refused
+unfoldable pub handedTrace : List ℕ
+handedTrace =
+    exampleTrace
+    ++ (((ascii "GM" ++ bytesOf 8 0x40000080)
+    ++ (bytesOf 4 96 ++ words (0x500000003 ∷ 9 ∷ 0 ∷ 0 ∷ 0x500000004 ∷ 9 ∷ 0 ∷ 0 ∷ 0x500000003 ∷ 8 ∷ 0 ∷ 0 ∷ [])))
+    ++ (WRs 0x88 8 224 ++ (WRs 0 4 1 ++ WRs 0x88 8 33)))
+
+-- the first write hands over the two actions made before the refused INT, and none of that one; the second hands over none of the first's; the third is
+-- refused before a run
+unfoldable pub handedLines : List ℕ
+handedLines = exampleLines ++ ascii "GM 0\nWR 8 3 192 2 2\nAC 1 8200 1\nAC 1 8200 0\nWR 8 3 192 0 0\nWR 7 0 33 0 0\n"

@@ -1,4 +1,4 @@
--- Document 01, "Refusal numbers", and document 02, A1: the number of each refusal, and for each answer that is an enum the paper's number and values in
+-- Document 01, "Refusal numbers", and document 02, A1 and A2: the number of each refusal, and for each answer that is an enum the paper's number and values in
 -- every case.
 -- Assumes nothing.
 use Prim.Native.Nat.{ℕ}
@@ -139,7 +139,7 @@ abbrev pub translateNumbers : TranslateAnswer → TranslateNumbers
 translateNumbers (Delivered a) = record { refusal = 0; lpi = a .lpi .0; processor = a .target .0 }
 translateNumbers (NotDelivered r) = record { refusal = numberOf r; lpi = 0; processor = 0 }
 
--- a write answers refusal, opcode, offset, done, actions: actions is 0 with any refusal
+-- a write answers refusal, opcode, offset, done, actions: a refused one too hands over what the commands before the refused one made (02, A2)
 pub record WriteNumbers : Type 0 where
   pub refusal : ℕ
   pub opcode : ℕ
@@ -150,4 +150,4 @@ pub record WriteNumbers : Type 0 where
 -- the numbers of a write, in each case
 abbrev pub writeNumbers : WriteAnswer → WriteNumbers
 writeNumbers (Taken done actions) = record { refusal = 0; opcode = 0; offset = 0; done = done; actions = actions }
-writeNumbers (NotTaken r opcode offset done) = record { refusal = numberOf r; opcode = opcode; offset = offset; done = done; actions = 0 }
+writeNumbers (NotTaken r opcode offset done actions) = record { refusal = numberOf r; opcode = opcode; offset = offset; done = done; actions = actions }

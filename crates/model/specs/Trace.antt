@@ -113,7 +113,7 @@ writeLine n = line "WR" (n .refusal ∷ n .opcode ∷ n .offset ∷ n .done ∷ 
 abbrev pub translateLine : TranslateNumbers → List ℕ
 translateLine n = line "TR" (n .refusal ∷ n .lpi ∷ n .processor ∷ [])
 
--- the line WR, with an AC per handed action
+-- the line WR, with an AC per handed action, whatever its refusal (02, A2)
 abbrev pub writeLines : Outcome → List (List ℕ)
 writeLines o =
     writeLine (writeNumbers (o .written .answer))

@@ -23,9 +23,9 @@ use Rattle.model.specs.Access.{checkWrite, ifAccepted}
 
 -- The ways in which a write goes.
 
--- refused: the registers stay, and nothing is done. The offset is 0, but for 7 at CWRITER
+-- refused before a run: the registers stay, nothing is done, and there is no action. The offset is 0, but for 7 at CWRITER
 abbrev pub refusing : ItsRegisters → ℕ → Refusal → RegisterWrite
-refusing r offset why = record { registers = r; rebased = false; runs = false; answer = NotTaken why 0 offset 0 }
+refusing r offset why = record { registers = r; rebased = false; runs = false; answer = NotTaken why 0 offset 0 0 }
 
 -- stored, or ignored (answer 0), with nothing to run
 abbrev pub storing : ItsRegisters → RegisterWrite

@@ -191,6 +191,7 @@ pub enum WriteAnswer {
         opcode: u8,
         offset: u64,
         done: usize,
+        actions: usize,
     },
 }
 

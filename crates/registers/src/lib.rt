@@ -105,6 +105,7 @@ fn refused(registers: ItsRegisters, offset: u64, refusal: Refusal) -> RegisterWr
             opcode: 0,
             offset: offset,
             done: 0,
+            actions: 0,
         },
     }
 }

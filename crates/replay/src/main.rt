@@ -12,8 +12,8 @@ struct Tally {
     other: u64,
 }
 
-// How far two runs of bytes agree: the first place that differs, how many lines end before it, where its line starts, and where the line
-// before that starts.
+// How far two runs of bytes agree: the first place that differs, how many lines end before it, where its line starts, and where the last line
+// before it starts that is not an `AC` line.
 struct Reached {
     at: usize,
     lines: u64,
@@ -62,7 +62,9 @@ fn further(a: &[u8], b: &[u8], r: Reached) -> Reached {
     next.at = std::num::wrapping_add_usize(i, 1);
     if a[i] == b'\n' {
         next.lines = std::num::wrapping_add_u64(r.lines, 1);
-        next.before = r.start;
+        if !is_action(a, r.start) {
+            next.before = r.start;
+        }
         next.start = next.at;
     }
     next
@@ -128,7 +130,14 @@ fn has(bytes: &[u8], at: usize, byte: u8) -> bool {
     bytes[at] == byte
 }
 
-// Whether the line at a place is that of a write refused with 9. A recording of the Rust ends there, for its tables are never full.
+// Whether the line at a place is an `AC` line.
+fn is_action(bytes: &[u8], at: usize) -> bool {
+    let one = std::num::wrapping_add_usize(at, 1);
+    has(bytes, at, b'A') & has(bytes, one, b'C')
+}
+
+// Whether the line at a place is that of a write refused with 9. A recording of the Rust ends with that line and its `AC` lines, since the Rust's
+// tables are never full.
 fn is_nine(bytes: &[u8], at: usize) -> bool {
     let one = std::num::wrapping_add_usize(at, 1);
     let three = std::num::wrapping_add_usize(at, 3);
