@@ -20,6 +20,12 @@ def as_list(data):
     return " ∷ ".join([str(byte) for byte in data] + ["[]"])
 
 
+def ends_at_nine(answers):
+    """Behind the line with the 9 stand only its actions."""
+    last = [line for line in answers.splitlines() if not line.startswith(b"AC ")][-1:]
+    return any(line.startswith(b"WR 9 ") for line in last)
+
+
 lines = [
     "use mathlib.Core.Path.{_≡_, refl}",
     "use mathlib.Core.List.{List, [], _∷_}",
@@ -30,7 +36,7 @@ count = 0
 for path in sorted(glob.glob(os.path.join(folder, "*.trace"))):
     trace = open(path, "rb").read()
     answers = open(path[: -len(".trace")] + ".expect", "rb").read()
-    if len(trace) > limit or answers.splitlines()[-1:] and answers.splitlines()[-1].startswith(b"WR 9 "):
+    if len(trace) > limit or ends_at_nine(answers):
         continue
     count += 1
     name = "«" + os.path.basename(path)[: -len(".trace")] + "»"

@@ -3,6 +3,9 @@
 use std::io::Write as _;
 use std::sync::Arc;
 
+use arm_vgic::Delivered;
+
+use crate::again::Past;
 use crate::record::{Malformed, Record, Records};
 use crate::unit::{Unit, Written};
 use crate::window::Window;
@@ -10,13 +13,18 @@ use crate::window::Window;
 /// The lines of a trace, and how far they are the Rust's.
 #[derive(Debug, Default)]
 pub struct Answers {
-    /// With 01's numbers: 7 for every check of a command.
+    /// With 01's numbers, 7 for every check of a command, and the actions that
+    /// the Rust delivered.
     pub lines: Vec<u8>,
     /// The same lines with 20 to 26 for a command's checks, as the Rust's own
-    /// text tells which one failed.
+    /// text tells which one failed, and behind a refused write the actions of
+    /// the commands that it carried out.
     pub told: Vec<u8>,
-    /// The run stopped at a 9: its line is the last, and a comparison ends there.
+    /// The run stopped at a 9: its line and its actions are the last, and a
+    /// comparison ends there.
     pub ended_at_nine: bool,
+    /// Refused writes that were run once more, up to the refused command.
+    pub again: u64,
     /// Calls answered without the Rust, for 01 puts them outside the domain.
     pub around: Around,
 }
@@ -61,6 +69,7 @@ pub fn answers(trace: &[u8]) -> Answers {
 
 pub fn watched_answers(trace: &[u8], watcher: &mut impl Watcher) -> Answers {
     let mut run = Run::default();
+    let mut past = Past::default();
     let mut answers = Answers::default();
     for next in Records::of(trace) {
         let record = match next {
@@ -72,28 +81,35 @@ pub fn watched_answers(trace: &[u8], watcher: &mut impl Watcher) -> Answers {
                 break;
             }
         };
-        let answer = run.answer(&record);
+        let mut answer = run.answer(&record);
+        if let Answer::Wr(written) = &mut answer
+            && written.stopped_midway()
+        {
+            written.handed = past.actions_before(written);
+            answers.again += 1;
+        }
         answers.around.count(&record, &answer);
         watcher.answered(&record, &answer, run.unit.as_ref());
-        put_answer(&mut answers.lines, &answer, |written| written.refusal);
-        put_answer(&mut answers.told, &answer, |written| written.told);
+        put_answer(&mut answers.lines, &answer, Form::Kinds);
+        put_answer(&mut answers.told, &answer, Form::Told);
         if matches!(&answer, Answer::Wr(written) if written.refusal == 9) {
             answers.ended_at_nine = true;
             break;
         }
+        past.keep(record);
     }
     answers
 }
 
 /// The unit and the window between two records.
 #[derive(Default)]
-struct Run {
+pub(crate) struct Run {
     unit: Option<Unit>,
     window: Arc<Window>,
 }
 
 impl Run {
-    fn answer(&mut self, record: &Record) -> Answer {
+    pub(crate) fn answer(&mut self, record: &Record) -> Answer {
         match record {
             Record::Cf(configuration) => {
                 self.unit = Unit::configure(configuration, self.window.clone());
@@ -111,14 +127,18 @@ impl Run {
                 offset,
                 width,
                 value,
-            } => Answer::Wr(match &mut self.unit {
-                Some(unit) => unit.write(*offset, *width, *value),
-                None => Written::refused(1),
-            }),
+            } => Answer::Wr(self.write(*offset, *width, *value)),
             Record::Tr { device, event } => Answer::Tr(match &self.unit {
                 Some(unit) => unit.translate(*device, *event),
                 None => Err(1),
             }),
+        }
+    }
+
+    pub(crate) fn write(&mut self, offset: u64, width: u8, value: u64) -> Written {
+        match &mut self.unit {
+            Some(unit) => unit.write(offset, width, value),
+            None => Written::refused(1),
         }
     }
 }
@@ -146,8 +166,24 @@ impl Around {
     }
 }
 
-/// The lines of an answer; a write has the number that `refusal` takes from it.
-pub(crate) fn put_answer(lines: &mut Vec<u8>, answer: &Answer, refusal: fn(&Written) -> u8) {
+/// The two forms in which a write is shown, as in `Answers`.
+#[derive(Clone, Copy)]
+pub(crate) enum Form {
+    Kinds,
+    Told,
+}
+
+impl Form {
+    fn of(self, written: &Written) -> (u8, &[Delivered]) {
+        match self {
+            Self::Kinds => (written.refusal, &written.actions),
+            Self::Told => (written.told, &written.handed),
+        }
+    }
+}
+
+/// The lines of an answer.
+pub(crate) fn put_answer(lines: &mut Vec<u8>, answer: &Answer, form: Form) {
     match answer {
         Answer::Cf(refusal) => put(lines, format_args!("CF {refusal}")),
         Answer::Gm => put(lines, format_args!("GM 0")),
@@ -156,18 +192,17 @@ pub(crate) fn put_answer(lines: &mut Vec<u8>, answer: &Answer, refusal: fn(&Writ
         Answer::Tr(Ok((lpi, processor))) => put(lines, format_args!("TR 0 {lpi} {processor}")),
         Answer::Tr(Err(refusal)) => put(lines, format_args!("TR {refusal} 0 0")),
         Answer::Wr(written) => {
-            let refusal = refusal(written);
+            let (refusal, actions) = form.of(written);
             let Written {
                 opcode,
                 offset,
                 done,
-                actions,
                 ..
             } = written;
-            let handed = actions.len();
+            let count = actions.len();
             put(
                 lines,
-                format_args!("WR {refusal} {opcode} {offset} {done} {handed}"),
+                format_args!("WR {refusal} {opcode} {offset} {done} {count}"),
             );
             for action in actions {
                 let processor = action.processor.raw();

@@ -1,11 +1,13 @@
 //! Another implementation's answer to a trace, held against the Rust's.
 //!
-//! It is held twice: with the numbers of a command's checks folded back into 7,
-//! against the Rust's kinds of error, which is what 02 demands; and as it is,
-//! against what the Rust's own texts tell.
+//! It is held twice: with the numbers of a command's checks folded back into 7
+//! and the actions of refused writes set aside, against what the Rust itself
+//! answers, which is what 02 demands; and as it is, against the reasons that the
+//! Rust's own texts tell and the actions that it gives when run up to the refused
+//! command.
 
 use crate::answers::Answers;
-use crate::lines::{count, first, first_difference};
+use crate::lines::{count, first, first_difference, first_with_actions, is_action};
 use crate::room::{MOST_OUTPUT, returned, written};
 
 /// The refusals that a command's own checks have in place of 01's 7: opcode
@@ -13,64 +15,165 @@ use crate::room::{MOST_OUTPUT, returned, written};
 /// unmapped, pair unmapped, processor not listed.
 pub const REASONS: [u8; 7] = [20, 21, 22, 23, 24, 25, 26];
 
-/// How often each of them was folded into 7.
+/// The refusals of a command, before which a write can have actions. Others come
+/// before any command is carried out.
+pub const OF_A_COMMAND: [u8; 10] = [6, 8, 9, 20, 21, 22, 23, 24, 25, 26];
+
+/// How often each of the reasons was folded into 7, and what was set aside
+/// before each refusal of a command. Actions before another refusal are not
+/// counted: no answer that is right has them.
 #[derive(Clone, Copy, Debug, Default, Eq, PartialEq)]
-pub struct Folded([u64; REASONS.len()]);
+pub struct Folded {
+    reasons: [u64; REASONS.len()],
+    aside: [Aside; OF_A_COMMAND.len()],
+}
+
+/// Actions set aside, and the writes that had them.
+#[derive(Clone, Copy, Debug, Default, Eq, PartialEq)]
+pub struct Aside {
+    pub actions: u64,
+    pub writes: u64,
+}
 
 impl Folded {
-    /// Each number with its count, in order.
+    /// Each reason with its count, in order.
     pub fn counts(&self) -> impl Iterator<Item = (u8, u64)> {
-        REASONS.into_iter().zip(self.0)
+        REASONS.into_iter().zip(self.reasons)
     }
 
-    /// How many there are in all.
+    /// How many were folded in all.
     pub fn all(&self) -> u64 {
-        self.0.iter().sum()
+        self.reasons.iter().sum()
+    }
+
+    /// Each refusal of a command with what was set aside before it, in order.
+    pub fn aside(&self) -> impl Iterator<Item = (u8, Aside)> {
+        OF_A_COMMAND.into_iter().zip(self.aside)
+    }
+
+    /// What was set aside in all.
+    pub fn all_aside(&self) -> Aside {
+        let mut all = Aside::default();
+        for aside in &self.aside {
+            all.add(aside);
+        }
+        all
     }
 
     pub fn absorb(&mut self, other: &Self) {
-        for (sum, more) in self.0.iter_mut().zip(other.0) {
+        for (sum, more) in self.reasons.iter_mut().zip(other.reasons) {
             *sum += more;
+        }
+        for (sum, more) in self.aside.iter_mut().zip(&other.aside) {
+            sum.add(more);
+        }
+    }
+
+    fn count(&mut self, refusal: u64, actions: u64) {
+        if let Some(place) = place(&REASONS, refusal) {
+            self.reasons[place] += 1;
+        }
+        if let Some(place) = place(&OF_A_COMMAND, refusal)
+            && actions > 0
+        {
+            self.aside[place].add(&Aside { actions, writes: 1 });
         }
     }
 }
 
+impl Aside {
+    fn add(&mut self, more: &Self) {
+        self.actions += more.actions;
+        self.writes += more.writes;
+    }
+}
+
+fn place(refusals: &[u8], refusal: u64) -> Option<usize> {
+    let is_refusal = |listed: &u8| u64::from(*listed) == refusal;
+    refusals.iter().position(is_refusal)
+}
+
 /// Lines in which the refusal of a WR line that is one of `REASONS` is 7 again,
-/// and how often that was so. No other word of any line is changed.
+/// and a refused write has no actions: their count is 0, and as many of the AC
+/// lines directly behind it as it said are left out. No other word and no other
+/// line is changed.
 pub fn fold(lines: &[u8]) -> (Vec<u8>, Folded) {
     let mut all = Vec::with_capacity(lines.len());
     let mut folded = Folded::default();
-    for line in lines.split_inclusive(|byte| *byte == b'\n') {
-        match reason_of(line) {
-            Some((place, rest)) => {
-                folded.0[place] += 1;
-                all.extend(b"WR 7");
-                all.extend(rest);
-            }
-            None => all.extend(line),
+    let mut rest = lines.split_inclusive(|byte| *byte == b'\n').peekable();
+    while let Some(line) = rest.next() {
+        let Some(refused) = Refused::of(line) else {
+            all.extend(line);
+            continue;
+        };
+        refused.put(&mut all);
+        let mut actions = 0;
+        while actions < refused.actions && rest.next_if(|line| is_action(line)).is_some() {
+            actions += 1;
         }
+        folded.count(refused.refusal, actions);
     }
     (all, folded)
 }
 
-/// The place among `REASONS` of a WR line's refusal, and what follows that word.
-fn reason_of(line: &[u8]) -> Option<(usize, &[u8])> {
-    let words = line.strip_prefix(b"WR ")?;
-    let end = words.iter().position(|byte| matches!(byte, b' ' | b'\n'));
-    let (refusal, rest) = words.split_at(end.unwrap_or(words.len()));
-    let is_refusal = |reason: &u8| reason.to_string().as_bytes() == refusal;
-    Some((REASONS.iter().position(is_refusal)?, rest))
+/// The line of a refused write.
+struct Refused<'a> {
+    refusal: u64,
+    /// Opcode, offset and how many commands were done.
+    between: [&'a [u8]; 3],
+    actions: u64,
+    end: &'a [u8],
+}
+
+impl<'a> Refused<'a> {
+    /// The pieces of a line, if it is one; any other is not looked into further.
+    fn of(line: &'a [u8]) -> Option<Self> {
+        let (words, end) = match line.strip_suffix(b"\n") {
+            Some(words) => (words, &b"\n"[..]),
+            None => (line, &b""[..]),
+        };
+        let mut words = words.strip_prefix(b"WR ")?.split(|byte| *byte == b' ');
+        let refusal = number(words.next()?).filter(|refusal| *refusal != 0)?;
+        let between = [words.next()?, words.next()?, words.next()?];
+        let actions = number(words.next()?)?;
+        words.next().is_none().then_some(Self {
+            refusal,
+            between,
+            actions,
+            end,
+        })
+    }
+
+    /// The line with 7 for a reason, and with no actions.
+    fn put(&self, lines: &mut Vec<u8>) {
+        let kind = match place(&REASONS, self.refusal) {
+            Some(_) => 7,
+            None => self.refusal,
+        };
+        lines.extend(format!("WR {kind}").as_bytes());
+        for word in self.between.into_iter().chain([&b"0"[..]]) {
+            lines.push(b' ');
+            lines.extend(word);
+        }
+        lines.extend(self.end);
+    }
+}
+
+/// A number as the lines have it: digits, no sign, no zero in front.
+fn number(word: &[u8]) -> Option<u64> {
+    let number: u64 = std::str::from_utf8(word).ok()?.parse().ok()?;
+    (number.to_string().as_bytes() == word).then_some(number)
 }
 
 /// Holds a C call that wrote these bytes into an output of this length and
 /// returned this number against the Rust's answers, and says what was folded on
 /// the way. An error says what is different, and in which of the two comparisons.
 ///
-/// A line with 20 to 26 is longer than one with 7, so what fits into the output
-/// is judged on the lines that the texts tell; where not all of them fit, as many
-/// folded lines are compared as were written. Where the Rust's run ended at a 9
-/// the lines up to and with that one are compared, and what the other call wrote
-/// after it is left alone.
+/// Folded lines are fewer and shorter, so what fits into the output is judged on
+/// the lines that the Rust tells; where not all of them fit, the first folded
+/// lines are compared, as many as there are. Where the Rust's run ended at a 9 the
+/// lines up to and with that one and its actions are compared, and what the other
+/// call wrote after them is left alone.
 pub fn difference(
     answers: &Answers,
     output: usize,
@@ -81,23 +184,31 @@ pub fn difference(
     let all_fit = told.len() <= output.min(MOST_OUTPUT);
     let open = answers.ended_at_nine && all_fit;
     let bytes = if open {
-        first(count(told), bytes)
+        first_with_actions(count(told), bytes)
     } else {
         bytes
     };
 
+    let (all_folded, folded) = fold(bytes);
+    // Where actions are missing, lines from behind the 9 are among the bytes.
+    let folded_lines = if open {
+        first_with_actions(count(lines), &all_folded)
+    } else {
+        &all_folded
+    };
     let kinds = if all_fit {
         lines
     } else {
-        first(count(bytes), lines)
+        first(count(folded_lines), lines)
     };
-    let (folded_lines, folded) = fold(bytes);
-    if let Some(difference) = first_difference(&folded_lines, kinds) {
-        return Err(format!("with 20 to 26 folded into 7, {difference}"));
+    if let Some(difference) = first_difference(folded_lines, kinds) {
+        return Err(format!(
+            "with 20 to 26 folded into 7 and the actions of refused writes set aside, {difference}"
+        ));
     }
     if let Some(difference) = first_difference(bytes, &told[..written(told, output)]) {
         return Err(format!(
-            "by the reasons that the Rust's texts tell, {difference}"
+            "by the reasons and actions that the Rust tells, {difference}"
         ));
     }
     let right = returned(told, output);

@@ -2,6 +2,7 @@
 
 mod accesses;
 mod cuts;
+mod handed;
 mod opcodes;
 mod reasons;
 mod sizes;
@@ -17,6 +18,7 @@ pub fn traces() -> impl Iterator<Item = Named> {
         .chain(accesses::edges())
         .chain(opcodes::traces())
         .chain(reasons::traces())
+        .chain(handed::traces())
         .chain(sizes::traces())
         .chain(windows::traces())
         .chain(cuts::traces())
@@ -25,10 +27,13 @@ pub fn traces() -> impl Iterator<Item = Named> {
 }
 
 /// What of the parts is recorded: all of the small ones, some of the others.
-pub fn some() -> [(&'static str, Vec<Named>); 6] {
+pub fn some() -> [(&'static str, Vec<Named>); 7] {
     let valid = |(name, _): &Named| name.ends_with("valid-1");
+    // Nothing of what is joined may follow a 9.
+    let handed = |(name, _): &Named| name.ends_with("by-cwriter") && !name.contains("-9-");
     [
         ("edges", accesses::edges().collect()),
+        ("handed", handed::traces().filter(handed).collect()),
         ("low-offsets", accesses::low_offsets().step_by(31).collect()),
         ("opcodes", opcodes::traces().filter(valid).collect()),
         ("reasons", reasons::traces().collect()),

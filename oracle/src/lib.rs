@@ -5,6 +5,8 @@
 //! feature `published` the Rust is left out, and what asks it.
 
 #[cfg(feature = "published")]
+pub mod again;
+#[cfg(feature = "published")]
 pub mod answers;
 pub mod command;
 #[cfg(feature = "published")]

@@ -11,6 +11,26 @@ pub fn first(count: usize, lines: &[u8]) -> &[u8] {
     &lines[..kept.map(<[u8]>::len).sum()]
 }
 
+/// The first lines, and the actions that stand directly behind them.
+pub fn first_with_actions(count: usize, lines: &[u8]) -> &[u8] {
+    let behind = &lines[first(count, lines).len()..];
+    let actions = behind.split_inclusive(|byte| *byte == b'\n');
+    let actions = actions.take_while(|line| is_action(line)).count();
+    first(count + actions, lines)
+}
+
+pub fn is_action(line: &[u8]) -> bool {
+    line.starts_with(b"AC ")
+}
+
+/// Whether the run that was recorded ended at a 9: behind that line stand only
+/// its actions.
+pub fn ends_at_nine(lines: &[u8]) -> bool {
+    let mut lines = lines.split_inclusive(|byte| *byte == b'\n');
+    let last = lines.rfind(|line| !is_action(line));
+    last.is_some_and(|line| line.starts_with(b"WR 9 "))
+}
+
 /// The first line in which two runs of lines differ.
 pub fn first_difference(lines: &[u8], expected: &[u8]) -> Option<String> {
     if lines == expected {

@@ -13,7 +13,7 @@ use oracle::room::{PROGRAM_BUFFER, written};
 use oracle::{digests, edits, explain, recorded, text};
 
 const USAGE: &str = "usage: oracle COMMAND
-  answer [FILE]     the Rust's answers to a trace, with the reasons that its texts tell
+  answer [FILE]     the Rust's answers to a trace, with the reasons and actions that it tells
   itstrace [FILE]   the same, within the limits of the program itstrace
   assemble [FILE]   a trace from text
   list [FILE]       text from a trace

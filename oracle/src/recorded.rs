@@ -1,5 +1,6 @@
 //! The fixed list of traces with the Rust's answers: made, and held against. A
-//! refused command has the number that the Rust's own text tells.
+//! refused command has the number that the Rust's own text tells, and a refused
+//! write the actions that the Rust gives when run up to that command.
 
 use std::fs;
 use std::path::Path;

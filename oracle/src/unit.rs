@@ -31,7 +31,11 @@ pub struct Written {
     pub opcode: u8,
     pub offset: u64,
     pub done: u64,
+    /// What the Rust delivered: nothing in a refused write.
     pub actions: Vec<Delivered>,
+    /// What is to be handed over: the same in an accepted write, and in a
+    /// refused one the actions of the commands that it carried out.
+    pub handed: Vec<Delivered>,
     /// The Rust's own error, with its text.
     pub error: Option<VgicError>,
     /// The table that a 9 found full.
@@ -51,6 +55,11 @@ impl Written {
             told: refusal,
             ..Self::default()
         }
+    }
+
+    /// Whether commands were carried out before one was refused.
+    pub fn stopped_midway(&self) -> bool {
+        self.refusal != 0 && self.done > 0
     }
 }
 
@@ -86,12 +95,14 @@ impl Unit {
         };
         let reader = self.register(GITS_CREADR);
         let outcome = self.controller.write_its(offset, width, value);
+        let actions = self.controller.take_delivered();
         let written = Written {
             reader,
             size: self.ring_size(),
             done: self.advance(offset, reader),
             commands: self.window.take_commands(),
-            actions: self.controller.take_delivered(),
+            handed: actions.clone(),
+            actions,
             ..Written::default()
         };
         self.follow(match outcome {

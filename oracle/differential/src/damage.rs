@@ -26,6 +26,7 @@ struct Tried {
     calls: u64,
     cut: u64,
     folded: u64,
+    aside: u64,
 }
 
 /// Tries the damaged traces of the numbers from one on; an error is a fault of
@@ -66,6 +67,7 @@ pub fn damage(call: Call, from: u64, count: u64) -> Result<String, String> {
         all.calls += tried.calls;
         all.cut += tried.cut;
         all.folded += tried.folded;
+        all.aside += tried.aside;
     }
     Ok(all.summary(count, begun.elapsed().as_secs_f64()))
 }
@@ -82,7 +84,9 @@ impl Tried {
         if let Some(fault) = shape::fault(trace, &whole, cut) {
             return Err(fault);
         }
-        self.folded += rusts(trace, &whole, number)?;
+        let (folded, aside) = rusts(trace, &whole, number)?;
+        self.folded += folded;
+        self.aside += aside;
         let near = [whole.len().saturating_sub(1), whole.len(), whole.len() + 1];
         for length in (0..=SMALL).chain(near).chain(LARGE) {
             let (count, left) = rooms::fits(&whole, cut, length);
@@ -124,9 +128,11 @@ impl Tried {
             grouped(self.calls),
             grouped(self.cut),
             if cfg!(feature = "published") {
-                let folded = grouped(self.folded);
                 format!(
-                    "; and every line as the published Rust gives it ({folded} answers folded into 7)"
+                    "; and every line as the published Rust gives it ({} answers folded into 7,\n\
+                     {} actions of refused writes set aside)",
+                    grouped(self.folded),
+                    grouped(self.aside),
                 )
             } else {
                 String::new()
@@ -135,15 +141,17 @@ impl Tried {
     }
 }
 
-/// The lines are the Rust's; how many of them were folded.
+/// The lines are the Rust's; how many of them were folded, and how many actions
+/// of refused writes set aside.
 #[cfg(feature = "published")]
-fn rusts(trace: &[u8], whole: &[u8], number: u64) -> Result<u64, String> {
+fn rusts(trace: &[u8], whole: &[u8], number: u64) -> Result<(u64, u64), String> {
     let answers = oracle::answers::answers(trace);
-    oracle::compare::difference(&answers, MOST_OUTPUT, whole, number).map(|folded| folded.all())
+    let folded = oracle::compare::difference(&answers, MOST_OUTPUT, whole, number)?;
+    Ok((folded.all(), folded.all_aside().actions))
 }
 
 /// The Rust is not at hand.
 #[cfg(not(feature = "published"))]
-fn rusts(_: &[u8], _: &[u8], _: u64) -> Result<u64, String> {
-    Ok(0)
+fn rusts(_: &[u8], _: &[u8], _: u64) -> Result<(u64, u64), String> {
+    Ok((0, 0))
 }

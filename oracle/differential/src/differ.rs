@@ -39,7 +39,7 @@ pub fn report(call: Call, trace: &[u8]) -> String {
     format!(
         "The difference: {what}\n\
          The trace as text (tools/itstrace.sh --text and oracle assemble take it):\n\n{}\n\
-         The published Rust answers, with its reasons{}:\n\n{}\n\
+         The published Rust answers, with its reasons and the actions before a refusal{}:\n\n{}\n\
          The C call answers:\n\n{ours}",
         oracle::text::list(trace),
         if rust.ended_at_nine {

@@ -1,12 +1,13 @@
 //! What folding did over many traces, so that it is seen how much the comparison
-//! with 7 sets aside, and that every reason was met.
+//! with what the Rust itself answers leaves to the other one, and that every
+//! reason was met, and actions before every refusal of a command.
 
 use oracle::compare::Folded;
 
 use crate::numbers::grouped;
 use crate::run::Traces;
 
-/// From so many seeds on, with the exhaustive traces, every reason must be met.
+/// From so many seeds on, with the exhaustive traces, all of it must be met.
 const ENOUGH: u64 = 20_000;
 
 pub struct Foldings {
@@ -15,46 +16,74 @@ pub struct Foldings {
     /// The refused MOVIs with neither their collection nor their pair mapped:
     /// where the order of two checks decides which number is told.
     pub moves: u64,
+    /// The refused writes for which the Rust was run once more, those without
+    /// actions among them.
+    pub again: u64,
 }
 
 impl Foldings {
     /// In one line, how many answers were folded, for each number, and what of
-    /// them is a MOVI of which two checks fail.
+    /// them is a MOVI of which two checks fail; in another, how many actions were
+    /// set aside, for each refusal.
     pub fn summary(&self) -> String {
-        let each: Vec<String> = self
-            .folded
-            .counts()
-            .map(|(number, count)| format!("{number}: {}", grouped(count)))
-            .collect();
+        let aside = self.folded.all_aside();
         format!(
             "Folded into 7: {} answers ({}), {} of them of a MOVI with neither its collection nor \
-             its pair mapped.",
+             its pair mapped.\n\
+             Set aside: {} actions of {} refused writes ({}), each of them given by the Rust when \
+             run up to the refused command; {} refused writes were run so, those without actions \
+             among them.",
             grouped(self.folded.all()),
-            each.join(", "),
+            each(self.folded.counts()),
             grouped(self.moves),
+            grouped(aside.actions),
+            grouped(aside.writes),
+            each(self.actions()),
+            grouped(self.again),
         )
+    }
+
+    /// Each refusal of a command with the actions set aside before it.
+    fn actions(&self) -> impl Iterator<Item = (u8, u64)> {
+        let aside = self.folded.aside();
+        aside.map(|(refusal, aside)| (refusal, aside.actions))
     }
 
     /// Whether nothing was left out that so many traces must meet; an error names
     /// what was.
     pub fn held_against(&self, traces: &Traces) -> Result<(), String> {
-        let never = self.never();
-        if never.is_empty() || !traces.exhaustive || traces.count < ENOUGH {
+        let mut gaps = String::new();
+        let mut never_folded = zero(self.folded.counts());
+        if self.moves == 0 {
+            never_folded.push("a MOVI with neither its collection nor its pair mapped".into());
+        }
+        if !never_folded.is_empty() {
+            gaps += &format!("\nNever folded into 7: {}.", never_folded.join("; "));
+        }
+        let never_aside = zero(self.actions());
+        if !never_aside.is_empty() {
+            gaps += &format!("\nNo actions before: {}.", never_aside.join("; "));
+        }
+        if gaps.is_empty() || !traces.exhaustive || traces.count < ENOUGH {
             return Ok(());
         }
         Err(format!(
-            "No difference was found, but these traces do not try every reason of a refused command.\n\
-             Never folded into 7: {}.",
-            never.join("; ")
+            "No difference was found, but these traces do not try every way in which a command is \
+             refused.{gaps}"
         ))
     }
+}
 
-    fn never(&self) -> Vec<String> {
-        let zero = self.folded.counts().filter(|(_, count)| *count == 0);
-        let mut never: Vec<String> = zero.map(|(number, _)| number.to_string()).collect();
-        if self.moves == 0 {
-            never.push("a MOVI with neither its collection nor its pair mapped".into());
-        }
-        never
-    }
+/// Numbers with their counts, in words.
+fn each(counts: impl Iterator<Item = (u8, u64)>) -> String {
+    let each: Vec<String> = counts
+        .map(|(number, count)| format!("{number}: {}", grouped(count)))
+        .collect();
+    each.join(", ")
+}
+
+/// The numbers with a count of 0.
+fn zero(counts: impl Iterator<Item = (u8, u64)>) -> Vec<String> {
+    let zero = counts.filter(|(_, count)| *count == 0);
+    zero.map(|(number, _)| number.to_string()).collect()
 }

@@ -3,14 +3,14 @@
 use std::fs;
 use std::path::Path;
 
-use oracle::lines::first_difference;
+use oracle::lines::{count, ends_at_nine, first_difference, first_with_actions};
 use oracle::room::MOST_OUTPUT;
 
 use crate::call::{Call, Lent};
 
 /// Every NAME.trace of a folder against its NAME.expect: how many there are.
 /// A recording of the Rust that ends at a 9 is compared up to there. The recorded
-/// lines have the reasons that the Rust's texts tell: nothing is folded.
+/// lines have the reasons and actions that the Rust tells: nothing is folded.
 pub fn recorded(call: Call, folder: &Path) -> Result<usize, String> {
     let shown = |error| format!("{}: {error}", folder.display());
     let mut traces = 0;
@@ -25,10 +25,8 @@ pub fn recorded(call: Call, folder: &Path) -> Result<usize, String> {
         let (_, bytes) = lent
             .call(call, &trace, MOST_OUTPUT, 0xa5)
             .map_err(|fault| format!("{}: {fault}", path.display()))?;
-        let last = expected.split(|byte| *byte == b'\n').rev().nth(1);
-        let open = last.is_some_and(|line| line.starts_with(b"WR 9 "));
-        let shown = if open {
-            &bytes[..bytes.len().min(expected.len())]
+        let shown = if ends_at_nine(&expected) {
+            first_with_actions(count(&expected), bytes)
         } else {
             bytes
         };

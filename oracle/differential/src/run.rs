@@ -28,6 +28,7 @@ pub struct Traces {
 struct Compared {
     coverage: Coverage,
     folded: Folded,
+    again: u64,
     bytes: u64,
     lines: u64,
     commands: u64,
@@ -40,6 +41,7 @@ impl Compared {
     fn absorb(&mut self, other: &Self) {
         self.coverage.absorb(&other.coverage);
         self.folded.absorb(&other.folded);
+        self.again += other.again;
         self.bytes += other.bytes;
         self.lines += other.lines;
         self.commands += other.commands;
@@ -89,6 +91,7 @@ pub fn run(call: Call, name: &str, traces: &Traces) -> Result<String, String> {
                 break;
             };
             compared.folded.absorb(&folded);
+            compared.again += rust.again;
             compared.bytes += trace.len() as u64;
             compared.count_lines(&rust.told);
             numbers.done();
@@ -144,6 +147,7 @@ impl Compared {
         Foldings {
             folded: self.folded,
             moves: self.coverage.moves_without_both(),
+            again: self.again,
         }
     }
 
@@ -157,8 +161,9 @@ impl Compared {
         };
         format!(
             "Compared: {call}, compiled for this machine, with the published Rust, in one\n\
-             process: every line, with 20 to 26 folded into 7 and with the reasons that the Rust's texts tell,\n\
-             the number returned, and that no byte beyond the written ones changed.\n\
+             process: every line, with 20 to 26 folded into 7 and the actions of refused writes set aside, and with\n\
+             the reasons and actions that the Rust tells; the number returned, and that no byte beyond the written\n\
+             ones changed.\n\
              {} traces of seeds {} to {last}, {} exhaustive traces; {} bytes of trace, {} lines,\n\
              {} commands carried out: 0 differences, {:.1} s.\n\
              {}\n\

@@ -1,8 +1,8 @@
 //! Whether lines can be the answer to a trace at all, without asking the Rust:
 //! a line for each record in order, its numbers in decimal and within their
-//! kinds, a refusal with an opcode that can have it, as many AC lines as the
-//! write before them says, and `??` with the right offset where the trace breaks
-//! off.
+//! kinds, a refusal with an opcode that can have it, no more actions than commands
+//! done, as many AC lines as the write before them says, and `??` with the right
+//! offset where the trace breaks off.
 
 use oracle::fields::{CLEAR, DISCARD, INT, INV, INVALL, MAPC, MAPD, MAPI, MAPTI, MOVI, SYNC};
 use oracle::record::{Record, Records};
@@ -51,10 +51,7 @@ pub fn fault(trace: &[u8], lines: &[u8], cut: bool) -> Option<String> {
                     matches!(refusal, 0 | 1 | 8) && (*refusal == 0 || *lpi == 0 && *processor == 0)
                 }
                 (Ok(Record::Wr { .. }), [refusal, opcode, _, done, actions]) => {
-                    refuses(*refusal, *opcode, *done)
-                        && *done <= 1024
-                        && actions <= done
-                        && (*refusal == 0 || *actions == 0)
+                    refuses(*refusal, *opcode, *done) && *done <= 1024 && actions <= done
                 }
                 (Err(malformed), [offset]) => *offset == malformed.offset as u64,
                 _ => false,

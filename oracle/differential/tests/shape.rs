@@ -25,7 +25,6 @@ fn a_refusal_has_an_opcode_that_can_have_it() {
         "WR 24 13 160 1 0",
         "WR 25 15 160 1 0",
         "WR 26 9 160 1 0",
-        "WR 0 0 0 1 1\nAC 1 8200 1",
     ] {
         assert!(can_be(line), "{line}");
     }
@@ -43,7 +42,29 @@ fn a_refusal_has_an_opcode_that_can_have_it() {
         "WR 24 9 160 1 0",
         "WR 25 3 160 1 0",
         "WR 26 10 160 1 0",
+    ] {
+        assert!(!can_be(line), "{line}");
+    }
+}
+
+#[test]
+fn a_write_has_at_most_the_actions_of_what_it_did() {
+    for line in [
+        "WR 0 0 0 1 1\nAC 1 8200 1",
         "WR 20 14 160 1 1\nAC 1 8200 1",
+        "WR 6 0 160 3 2\nAC 1 8200 1\nAC 1 8200 0",
+        "WR 9 8 160 1 1\nAC 1 8200 1",
+    ] {
+        assert!(can_be(line), "{line}");
+    }
+    for line in [
+        "WR 0 0 0 1 2\nAC 1 8200 1\nAC 1 8200 1",
+        "WR 20 14 160 1 2\nAC 1 8200 1\nAC 1 8200 1",
+        "WR 20 14 160 0 1\nAC 1 8200 1",
+        "WR 5 0 160 0 1\nAC 1 8200 1",
+        "WR 7 0 160 0 1\nAC 1 8200 1",
+        "WR 20 14 160 1 1",
+        "WR 20 14 160 1 0\nAC 1 8200 1",
     ] {
         assert!(!can_be(line), "{line}");
     }

@@ -143,7 +143,7 @@ impl Both {
             address: QUEUE,
             bytes: &self.ring,
         };
-        let port = self
+        let (_, port) = self
             .its
             .write(window, &mut self.row[..], offset, width, value);
         port.expect("taken");
@@ -167,9 +167,8 @@ impl Both {
             bytes: &self.ring,
         };
         let value = black_box(self.writer as u64);
-        let written = self.its.write(window, &mut self.row[..], CWRITER, 8, value);
-        let written = written.expect("taken");
-        (written.done, written.actions)
+        let (actions, written) = self.its.write(window, &mut self.row[..], CWRITER, 8, value);
+        (written.expect("taken").done, actions.len())
     }
 
     /// CWRITER written to the Rust: the actions that it delivered.

@@ -4,17 +4,21 @@ use super::counts::Counts;
 use super::state::Seen;
 use super::{Part, rows};
 use crate::answers::Answer;
+use crate::compare::OF_A_COMMAND;
 use crate::record::Record;
 use crate::text::REGISTERS;
 use crate::unit::IDENTIFICATION;
 
-/// The refusals of each kind of line. 10 needs a short row, which no trace
-/// lends, and 11 is the C call's own.
+/// The row of the refused writes that had actions.
+const ACTIONS_BEFORE: &str = "actions before a refusal";
+
+/// The refusals of each kind of line, and those with actions before them. 10
+/// needs a short row, which no trace lends, and 11 is the C call's own.
 pub struct Lines;
 
 impl Part for Lines {
     fn rows(&self) -> Vec<(String, Vec<String>)> {
-        rows(&[
+        let mut rows = rows(&[
             ("CF", &["0", "1"]),
             ("GM", &["0"]),
             ("RD", &["0", "1", "2", "3"]),
@@ -27,7 +31,10 @@ impl Part for Lines {
             ),
             ("TR", &["0", "1", "8"]),
             ("AC", &["pending", "clear"]),
-        ])
+        ]);
+        let refusals = OF_A_COMMAND.map(|refusal| refusal.to_string());
+        rows.push((ACTIONS_BEFORE.into(), refusals.to_vec()));
+        rows
     }
 
     fn see(&mut self, seen: &Seen<'_>, counts: &mut Counts) {
@@ -40,8 +47,11 @@ impl Part for Lines {
         };
         counts.add(row, &refusal.to_string());
         if let Answer::Wr(written) = seen.answer {
-            for action in &written.actions {
+            for action in &written.handed {
                 counts.add("AC", if action.pending { "pending" } else { "clear" });
+            }
+            if refusal != 0 && !written.handed.is_empty() {
+                counts.add(ACTIONS_BEFORE, &refusal.to_string());
             }
         }
     }

@@ -5,7 +5,8 @@ use std::path::PathBuf;
 use oracle::answers::answers;
 use oracle::text::assemble;
 
-/// The lines of a trace given as text, with the reasons that the Rust tells.
+/// The lines of a trace given as text, with the reasons and actions that the Rust
+/// tells.
 pub fn lines_of(text: &str) -> Vec<String> {
     let trace = assemble(text).expect("a well-formed text");
     let lines = String::from_utf8(answers(&trace).told).expect("lines are text");

@@ -1,5 +1,6 @@
 //! Document 01's corners: the lines that it foretells, in the texts of traces/.
-//! A refused command has the number that 02 gives its reason.
+//! A refused command has the number that 02 gives its reason, and the INT before
+//! it is handed over.
 
 use crate::common::lines_of_file;
 
@@ -52,15 +53,24 @@ const CORNERS: [(&str, &[(usize, &str)]); 13] = [
         "p11-second-mapd",
         &[
             (7, "TR 0 8200 1"),
-            (8, "WR 23 10 192 1 0"),
-            (10, "TR 0 8200 1"),
+            (8, "WR 23 10 192 1 1"),
+            (9, "AC 1 8200 1"),
+            (11, "TR 0 8200 1"),
         ],
     ),
     (
         "budget-64-65",
         &[(4, "WR 0 0 0 64 0"), (6, "WR 5 0 2048 0 0")],
     ),
-    ("opcode-0e", &[(6, "WR 20 14 160 1 0")]),
+    (
+        "opcode-0e",
+        &[
+            (6, "WR 20 14 160 1 1"),
+            (7, "AC 1 8200 1"),
+            (8, "RD 0 160"),
+            (9, "TR 0 8200 1"),
+        ],
+    ),
 ];
 
 #[test]

@@ -1,11 +1,13 @@
 //! The package's tests, in one program.
 
+mod again;
 mod common;
 mod compare;
 mod constants;
 mod corners;
 mod domain;
 mod example;
+mod lines;
 mod linux;
 mod reason;
 mod recorded;

@@ -44,6 +44,19 @@ fn the_list_has_every_two_checks_that_fail_together() {
     assert!(coverage.moves_without_both() > 0);
 }
 
+#[test]
+fn the_list_has_actions_before_every_refusal_of_a_command() {
+    let mut coverage = Coverage::default();
+    for (_, trace) in list(Path::new(TEXTS)).expect("well-formed texts") {
+        coverage.trace(&trace);
+    }
+    let missing = coverage.missing();
+    let before = missing
+        .iter()
+        .filter(|name| name.contains("actions before"));
+    assert_eq!(before.count(), 0, "{missing:?}");
+}
+
 /// Both fit the buffers of the program itstrace.
 #[test]
 fn generated_traces_and_their_answers_fit_the_program() {

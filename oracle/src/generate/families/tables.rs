@@ -147,10 +147,15 @@ impl<'a> Filler<'a> {
         self.guest.post_and_settle(&commands);
     }
 
-    /// One record more than the table has: the oracle's run ends here.
+    /// One record more than the table has: the oracle's run ends here. Every
+    /// other new pair has an INT of the last one before it.
     fn overfill(&mut self) {
-        let replaced = self.replacement();
-        let one_more = self.one_more();
-        self.guest.post(&[replaced, one_more]);
+        let mut commands = vec![self.replacement()];
+        if self.table == Table::Translations && self.next % 2 == 1 {
+            let (device, event) = self.last_pair();
+            commands.push(int(device, event));
+        }
+        commands.push(self.one_more());
+        self.guest.post(&commands);
     }
 }
