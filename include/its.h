@@ -54,8 +54,9 @@ typedef struct {
 
 /*
  * Why a call is refused. Of its_write 20 to 26, 6, 8 and 9 are of a command in the queue: CREADR stands on it, told has its opcode (0 with 6) and
- * CREADR as offset, it changed nothing, and the commands before it were carried out, as many as done says. 5 leaves what was written stored and
- * runs nothing. All others change nothing, but for a refused its_configure.
+ * CREADR as offset, it changed nothing, and the commands before it were carried out, as many as done says, and their actions handed over. With
+ * every other refusal done and actions are 0. 5 leaves what was written stored and runs nothing. The rest change nothing, but for a refused
+ * its_configure.
  */
 enum its_refusal {
     ITS_UNSOUND = 1, /* The unit is not configured, or its numbers are not those of any unit. */
@@ -88,9 +89,11 @@ uint64_t its_read(const its_unit *unit, uint64_t offset, uint8_t width, its_told
  * Writes a register of the frame; an enabled unit then runs the commands that wait in its queue.
  *
  * The window is guest memory: window_length bytes, the first of them at the guest address window_address; the queue is read from it. The row
- * gets the actions of INT and CLEAR, one number each, the first first; its numbers behind them stay as they were. A row with less room than
- * the command budget is refused with 10, and 1,024 are enough for any budget. After a refusal of a command the row still holds the actions of
- * the commands carried out before, although told says 0.
+ * gets the actions of the INT and CLEAR that this call carried out, one number each, the first first; its numbers behind them stay as they were.
+ * A row with less room than the command budget is refused with 10, and 1,024 are enough for any budget.
+ *
+ * After every call, refused or not, the host delivers the first actions of the row, as many as actions says (told->numbers[4]), in order; then it
+ * looks at the refusal. What a refused write handed over is not handed over again when the refused command is tried again.
  */
 uint64_t its_write(its_unit *unit, uint64_t window_address, const uint8_t *window, size_t window_length, uint64_t *row, size_t row_length,
     uint64_t offset, uint8_t width, uint64_t value, its_told *told);

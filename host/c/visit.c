@@ -11,6 +11,7 @@ static its_told told;
 static uint8_t queue[4096];
 static size_t used;
 static uint64_t row[64];
+static uint64_t delivered;
 static int wrong;
 static void (*say)(const char *line);
 
@@ -33,8 +34,18 @@ static void put(uint64_t w0, uint64_t w1, uint64_t w2) {
     }
 }
 
+/* A write, and then, refused or not, what its host does: each action handed over is delivered. Here the last of them is kept. */
 static uint64_t write(uint64_t offset, uint8_t width, uint64_t value) {
-    return its_write(&unit, QUEUE, queue, used, row, 64, offset, width, value, &told);
+    const uint64_t refusal = its_write(&unit, QUEUE, queue, used, row, 64, offset, width, value, &told);
+    delivered = 0;
+    for (uint64_t i = 0; i < told.numbers[4]; i++) {
+        delivered = row[i];
+    }
+    return refusal;
+}
+
+static int is_touch(uint64_t action) {
+    return its_action_lpi(action) == LPI && its_action_processor(action) == PROCESSOR && its_action_pending(action);
 }
 
 int visit_main(void (*line)(const char *)) {
@@ -54,11 +65,19 @@ int visit_main(void (*line)(const char *)) {
     put(0x0a | seat, TOUCH | (uint64_t)LPI << 32, COLLECTION);
     put(0x03 | seat, TOUCH, 0);
     check("MAPD, MAPC, MAPTI, INT", write(CWRITER, 8, used) == 0 && is(0, 0, 0, 4, 1));
-    check("the action", its_action_lpi(row[0]) == LPI && its_action_processor(row[0]) == PROCESSOR && its_action_pending(row[0]));
+    check("the action", is_touch(delivered));
     check("the pair translates", its_translate(&unit, SEAT, TOUCH, &told) == 0 && is(0, LPI, PROCESSOR, 0, 0));
     check("CREADR", its_read(&unit, CREADR, 8, &told) == 0 && is(0, 128, 0, 0, 0));
+    put(0x03 | seat, TOUCH, 0);
+    put(0x0e, 0, 0);
+    check("INT, then MOVALL, which the unit lacks: refused with 20", write(CWRITER, 8, used) == ITS_OPCODE_UNKNOWN && is(20, 0x0e, 160, 1, 1));
+    check("the INT's action all the same", is_touch(delivered));
+    check("MOVALL tried again: no action again", write(CTLR, 4, 1) == ITS_OPCODE_UNKNOWN && is(20, 0x0e, 160, 0, 0));
+    used = 160;
+    put(0x05, 0, PROCESSOR << 16);
+    check("SYNC in its place", write(CTLR, 4, 1) == 0 && is(0, 0, 0, 1, 0));
     put(0x0f | seat, TOUCH + 1, 0);
-    check("DISCARD of no pair: refused with 25", write(CWRITER, 8, used) == ITS_PAIR_UNMAPPED && is(25, 0x0f, 128, 0, 0));
+    check("DISCARD of no pair: refused with 25", write(CWRITER, 8, used) == ITS_PAIR_UNMAPPED && is(25, 0x0f, 192, 0, 0));
     line(wrong ? "visit: wrong answers" : "visit: every answer as expected");
     return wrong != 0;
 }

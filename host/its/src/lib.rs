@@ -37,7 +37,7 @@ pub struct Delivery {
 pub struct Written {
     /// The commands carried out.
     pub done: u64,
-    /// The actions handed over: the first so many of the row.
+    /// How many actions were handed over.
     pub actions: usize,
 }
 
@@ -65,20 +65,26 @@ impl Its {
     /// Writes a register of the frame. An enabled unit then runs its queue: it
     /// reads commands from the window, and puts the actions of INT and CLEAR
     /// into the row, which must have room for a whole command budget.
+    ///
+    /// It hands over the actions of this write, which are the row's first, and
+    /// answers. They stand beside the answer and not in it, for they are to be
+    /// delivered, in order, whether a command behind them was refused or not.
     #[inline]
-    pub fn write(
+    #[must_use = "the actions are to be delivered, of a refused write too"]
+    pub fn write<'r>(
         &mut self,
         window: Window<'_>,
-        row: &mut [Action],
+        row: &'r mut [Action],
         offset: u64,
         width: u8,
         value: u64,
-    ) -> Result<Written, WriteRefused> {
+    ) -> (&'r [Action], Result<Written, WriteRefused>) {
         let answer = calls::write(&mut self.0, window, row, offset, width, value);
-        WriteRefused::of(&answer).map(|()| Written {
+        let written = WriteRefused::of(&answer).map(|()| Written {
             done: answer.done(),
             actions: answer.actions(),
-        })
+        });
+        (&row[..answer.actions()], written)
     }
 
     /// Where a message of this device and event goes.

@@ -94,8 +94,8 @@ impl fmt::Display for Refusal {
 
 impl core::error::Error for Refusal {}
 
-/// A write that was refused, and how far its run went. The first actions of the
-/// row are those of the commands carried out before, which count all the same.
+/// A write that was refused, and how far its run went. What it handed over is to
+/// be delivered all the same: see [`Its::write`](crate::Its::write).
 #[derive(Clone, Copy, Debug, Eq, PartialEq)]
 pub struct WriteRefused {
     pub refusal: Refusal,
@@ -106,6 +106,8 @@ pub struct WriteRefused {
     pub offset: u64,
     /// The commands carried out before.
     pub done: u64,
+    /// How many actions of these were handed over.
+    pub actions: usize,
 }
 
 impl WriteRefused {
@@ -123,6 +125,7 @@ impl WriteRefused {
             opcode: answer.opcode(),
             offset: answer.offset(),
             done: answer.done(),
+            actions: answer.actions(),
         })
     }
 }

@@ -1,6 +1,8 @@
 //! A host's calls, from a fresh unit to a message that arrives.
 
-use its::command::{clear, discard, int, inv, invall, mapc, mapd, mapi, mapti, movi, sync};
+use its::command::{
+    Command, clear, discard, int, inv, invall, mapc, mapd, mapi, mapti, movi, sync,
+};
 use its::{Action, CollectionId, Configuration, DeviceId, EventId, Its, Lpi, Processor};
 use its::{Refusal, Window, WriteRefused, Written};
 
@@ -10,10 +12,13 @@ const CWRITER: u64 = 0x88;
 const CREADR: u64 = 0x90;
 const QUEUE: u64 = 0x4_0000;
 
+/// An action as its host delivers it: made pending, or taken back.
+type Delivered = (Lpi, Processor, bool);
+type Answer = (Vec<Delivered>, Result<Written, WriteRefused>);
+
 struct Host {
     its: Its,
     queue: Vec<u8>,
-    row: [Action; 64],
 }
 
 impl Host {
@@ -29,22 +34,34 @@ impl Host {
         let mut host = Self {
             its,
             queue: Vec::new(),
-            row: [Action::default(); 64],
         };
-        host.write(CBASER, 8, QUEUE).unwrap();
-        host.write(CTLR, 4, 1).unwrap();
+        host.write(CBASER, 8, QUEUE).1.unwrap();
+        host.write(CTLR, 4, 1).1.unwrap();
         host
     }
 
-    fn write(&mut self, offset: u64, width: u8, value: u64) -> Result<Written, WriteRefused> {
+    /// A write with an empty row: what is delivered after it, and its answer. The
+    /// row's other records stay empty.
+    fn write(&mut self, offset: u64, width: u8, value: u64) -> Answer {
+        let mut row = [Action::default(); 64];
         let window = Window {
             address: QUEUE,
             bytes: &self.queue,
         };
-        self.its.write(window, &mut self.row, offset, width, value)
+        let (actions, answer) = self.its.write(window, &mut row, offset, width, value);
+        let parts = |action: &Action| (action.lpi(), action.processor(), action.pending());
+        let delivered: Vec<Delivered> = actions.iter().map(parts).collect();
+        let count = answer.map_or_else(|refused| refused.actions, |written| written.actions);
+        assert_eq!(delivered.len(), count);
+        assert!(
+            row[count..]
+                .iter()
+                .all(|action| *action == Action::default())
+        );
+        (delivered, answer)
     }
 
-    fn run(&mut self, commands: &[[u8; 32]]) -> Result<Written, WriteRefused> {
+    fn run(&mut self, commands: &[Command]) -> Answer {
         self.queue.extend(commands.iter().flatten());
         self.write(CWRITER, 8, self.queue.len() as u64)
     }
@@ -52,6 +69,14 @@ impl Host {
 
 const SEAT: DeviceId = DeviceId(7);
 const TOUCH: EventId = EventId(2);
+const STOP: EventId = EventId(3);
+
+/// A command that this unit lacks.
+const MOVALL: Command = {
+    let mut bytes = [0; 32];
+    bytes[0] = 0x0e;
+    bytes
+};
 
 #[test]
 fn a_message_arrives() {
@@ -67,16 +92,12 @@ fn a_message_arrives() {
         int(SEAT, TOUCH),
         sync(Processor(3)),
     ]);
-    assert_eq!(
-        mapped,
-        Ok(Written {
-            done: 5,
-            actions: 1
-        })
-    );
-    assert_eq!(host.row[0].lpi(), Lpi(8_200));
-    assert_eq!(host.row[0].processor(), Processor(3));
-    assert!(host.row[0].pending());
+    let written = Written {
+        done: 5,
+        actions: 1,
+    };
+    let made = vec![(Lpi(8_200), Processor(3), true)];
+    assert_eq!(mapped, (made, Ok(written)));
     let delivery = host.its.translate(SEAT, TOUCH).unwrap();
     assert_eq!(
         (delivery.lpi, delivery.processor),
@@ -88,7 +109,7 @@ fn a_message_arrives() {
 #[test]
 fn a_refused_command_says_where() {
     let mut host = Host::new();
-    let refused = host.run(&[mapd(SEAT, 4), discard(SEAT, TOUCH)]);
+    let (_, refused) = host.run(&[mapd(SEAT, 4), discard(SEAT, TOUCH)]);
     assert_eq!(
         refused,
         Err(WriteRefused {
@@ -96,24 +117,23 @@ fn a_refused_command_says_where() {
             opcode: 0x0f,
             offset: 32,
             done: 1,
+            actions: 0,
         })
     );
 }
 
 /// A run of MAPD, MAPC and then this command, which is refused.
-fn refused(command: [u8; 32]) -> WriteRefused {
+fn refused(command: Command) -> WriteRefused {
     let mut host = Host::new();
     let first = [mapd(SEAT, 4), mapc(CollectionId(1), Processor(3))];
-    host.run(&[first[0], first[1], command]).unwrap_err()
+    host.run(&[first[0], first[1], command]).1.unwrap_err()
 }
 
 #[test]
 fn each_reason_of_a_command_has_its_number() {
     let (one, two) = (CollectionId(1), CollectionId(2));
-    let mut movall = [0; 32];
-    movall[0] = 0x0e;
     for (number, command) in [
-        (20, movall),
+        (20, MOVALL),
         (21, mapti(SEAT, TOUCH, Lpi(8_191), one)),
         (21, mapi(SEAT, TOUCH, one)),
         (22, mapti(DeviceId(8), TOUCH, Lpi(8_200), one)),
@@ -132,9 +152,98 @@ fn each_reason_of_a_command_has_its_number() {
     ] {
         let refused = refused(command);
         assert_eq!(refused.refusal.number(), number, "{command:?}");
-        assert_eq!((refused.offset, refused.done), (64, 2));
+        assert_eq!((refused.offset, refused.done, refused.actions), (64, 2, 0));
         assert_eq!(refused.opcode, command[0]);
         assert!(refused.is_of_a_command());
+    }
+}
+
+/// A host whose guest has mapped the seat's two messages. CREADR is 128 then.
+fn seated() -> Host {
+    let mut host = Host::new();
+    let mapped = host.run(&[
+        mapd(SEAT, 4),
+        mapc(CollectionId(1), Processor(3)),
+        mapti(SEAT, TOUCH, Lpi(8_200), CollectionId(1)),
+        mapti(SEAT, STOP, Lpi(8_201), CollectionId(1)),
+    ]);
+    assert!(mapped.1.is_ok());
+    assert_eq!(host.its.read(CREADR, 8), Ok(128));
+    host
+}
+
+#[test]
+fn a_stop_before_a_command_that_the_unit_lacks() {
+    let mut host = seated();
+    let answer = host.run(&[int(SEAT, STOP), MOVALL]);
+    let lacking = WriteRefused {
+        refusal: Refusal::OpcodeUnknown,
+        opcode: 0x0e,
+        offset: 160,
+        done: 1,
+        actions: 1,
+    };
+    let stop = vec![(Lpi(8_201), Processor(3), true)];
+    assert_eq!(answer, (stop, Err(lacking)));
+
+    // The command is tried again, and the stop is not handed over again.
+    let still = WriteRefused {
+        done: 0,
+        actions: 0,
+        ..lacking
+    };
+    assert_eq!(host.write(CTLR, 4, 1), (vec![], Err(still)));
+
+    // The driver puts a SYNC in its place.
+    host.queue[160..].copy_from_slice(&sync(Processor(3)));
+    let mended = Written {
+        done: 1,
+        actions: 0,
+    };
+    assert_eq!(host.write(CTLR, 4, 1), (vec![], Ok(mended)));
+    assert_eq!(host.its.read(CREADR, 8), Ok(192));
+}
+
+#[test]
+fn actions_before_a_refused_command_come_in_order() {
+    let mut host = seated();
+    let answer = host.run(&[int(SEAT, TOUCH), clear(SEAT, STOP), int(SEAT, EventId(4))]);
+    let refused = WriteRefused {
+        refusal: Refusal::ResourceNotFound,
+        opcode: 0x03,
+        offset: 192,
+        done: 2,
+        actions: 2,
+    };
+    let made = vec![
+        (Lpi(8_200), Processor(3), true),
+        (Lpi(8_201), Processor(3), false),
+    ];
+    assert_eq!(answer, (made, Err(refused)));
+}
+
+#[test]
+fn a_write_that_runs_nothing_hands_over_nothing() {
+    let mut host = seated();
+    let answer = host.run(&[int(SEAT, TOUCH); 65]);
+    let exceeded = WriteRefused {
+        refusal: Refusal::BudgetExceeded,
+        opcode: 0,
+        offset: 128,
+        done: 0,
+        actions: 0,
+    };
+    assert_eq!(answer, (vec![], Err(exceeded)));
+    // The commands wait still.
+    for (number, offset, width, value) in [
+        (5, CTLR, 4, 1),
+        (2, CTLR, 8, 1),
+        (3, 0xffe8, 4, 0),
+        (7, CWRITER, 8, 33),
+    ] {
+        let (delivered, answer) = host.write(offset, width, value);
+        assert_eq!(answer.unwrap_err().refusal.number(), number);
+        assert_eq!(delivered, []);
     }
 }
 
@@ -144,7 +253,7 @@ fn a_refusal_in_words() {
         refused(mapti(DeviceId(8), TOUCH, Lpi(8_200), CollectionId(1))).to_string(),
         "command at 0x40 of the queue, opcode 0x0a, refused with 22: the device is not mapped: MAPD with V 1 comes first"
     );
-    let writer = Host::new().write(CWRITER, 8, 33).unwrap_err();
+    let writer = Host::new().write(CWRITER, 8, 33).1.unwrap_err();
     assert_eq!(writer.refusal, Refusal::WriterRefused);
     assert!(!writer.is_of_a_command());
     assert!(
@@ -177,7 +286,9 @@ fn a_row_that_is_too_short() {
         address: 0,
         bytes: &[],
     };
-    let refused = host.its.write(window, &mut host.row[..63], CTLR, 4, 0);
+    let mut row = [Action::default(); 63];
+    let (actions, refused) = host.its.write(window, &mut row, CTLR, 4, 0);
     assert_eq!(refused.unwrap_err().refusal, Refusal::RowTooShort);
+    assert_eq!(actions, []);
     assert_eq!(host.its.read(CTLR, 4), Ok(0x8000_0001));
 }

@@ -78,28 +78,31 @@ impl Host {
     }
 
     /// The guest writes a register: the unit runs the commands that wait, and
-    /// hands over what INT and CLEAR ask for.
+    /// hands over what INT and CLEAR ask for, also if it then refuses a command.
     fn write(&mut self, offset: u64, width: u8, value: u64) {
         let window = Window {
             address: self.address,
             bytes: &self.memory,
         };
-        match self.its.write(window, &mut self.row, offset, width, value) {
-            Ok(written) => {
-                let (done, actions) = (written.done, written.actions);
-                self.say(format_args!("WR 0 0 0 {done} {actions}"));
-                for place in 0..actions {
-                    let action = self.row[place];
-                    let (processor, lpi) = (action.processor().0, action.lpi().0);
-                    let pending = u8::from(action.pending());
-                    self.say(format_args!("AC {processor} {lpi} {pending}"));
-                }
-            }
-            Err(refused) => {
-                let (number, opcode) = (refused.refusal.number(), refused.opcode);
-                let (offset, done) = (refused.offset, refused.done);
-                self.say(format_args!("WR {number} {opcode} {offset} {done} 0"));
-            }
+        let (actions, answer) = self.its.write(window, &mut self.row, offset, width, value);
+        let (number, opcode, offset, done) = match answer {
+            Ok(written) => (0, 0, 0, written.done),
+            Err(refused) => (
+                refused.refusal.number(),
+                refused.opcode,
+                refused.offset,
+                refused.done,
+            ),
+        };
+        let count = actions.len();
+        let line = format_args!("WR {number} {opcode} {offset} {done} {count}");
+        say(&mut self.lines, line);
+        // To deliver an action is, here, to give it a line, behind that of the write.
+        for action in actions {
+            let (processor, lpi) = (action.processor().0, action.lpi().0);
+            let pending = u8::from(action.pending());
+            let line = format_args!("AC {processor} {lpi} {pending}");
+            say(&mut self.lines, line);
         }
     }
 
@@ -115,6 +118,10 @@ impl Host {
     }
 
     fn say(&mut self, line: std::fmt::Arguments<'_>) {
-        writeln!(self.lines, "{line}").expect("a vector takes every byte");
+        say(&mut self.lines, line);
     }
+}
+
+fn say(lines: &mut Vec<u8>, line: std::fmt::Arguments<'_>) {
+    writeln!(lines, "{line}").expect("a vector takes every byte");
 }
