@@ -3,7 +3,8 @@
 #
 # An edit shows something only if a fact fails. So each wrong text in it names the fact that it breaks, and this script fails
 #   - where the log has no error at that name (of a function that needs no proof file: that rattle's own search does not close it);
-#   - where the edit only made a proof file unfit for the code ("has no `Need-..`").
+#   - where the edit only made a proof file unfit for the code ("has no `Need-..`");
+#   - where a definition itself does not check: then whatever is said about it falls with it.
 # A line `fails: FACT` names it. An edit that holds a wrong text for each of several functions has a line `fails: FUNCTION FACT` for each
 # (`MODULE/FUNCTION` of a module's), and the error must stand in that function's own proof. An edit that holds several wrong definitions has a line
 # `fails: FILE.antt FACT` for each (`proofs/Ring.antt offset-next`): the error must stand in that file, and be the fact's own, not that a fact under it
@@ -49,6 +50,8 @@ for edit in crates/*/must-fail/*.edit; do
     first=$(grep -m 1 'error: ' "$log")
     echo "$crate/$label"
     [ -z "$first" ] || printf '%s\n' "$first" | shown
+    unchecked=$(grep -F "${log%.log}specs/" "$log" | grep -F -m 1 ': error: ')
+    [ -z "$unchecked" ] || say_bad "$crate/$label" "a definition does not check: $(printf '%s\n' "$unchecked" | shown)"
     case $first in *'has no `Need-'*) say_bad "$crate/$label" "refused only because a proof file no longer fits the code" ;; esac
     while read -r where fact; do
         [ -n "$fact" ] || { fact=$where; where=''; }
