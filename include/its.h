@@ -55,8 +55,8 @@ typedef struct {
 /*
  * Why a call is refused. Of its_write 20 to 26, 6, 8 and 9 are of a command in the queue: CREADR stands on it, told has its opcode (0 with 6) and
  * CREADR as offset, it changed nothing, and the commands before it were carried out, as many as done says, and their actions handed over. With
- * every other refusal done and actions are 0. 5 leaves what was written stored and runs nothing. The rest change nothing, but for a refused
- * its_configure.
+ * every other refusal done and actions are 0. 5 leaves what was written stored and runs nothing; its offset is CREADR. The rest change nothing, but
+ * for a refused its_configure; the offset of 7 is the refused one.
  */
 enum its_refusal {
     ITS_UNSOUND = 1, /* The unit is not configured, or its numbers are not those of any unit. */

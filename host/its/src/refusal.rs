@@ -101,8 +101,8 @@ pub struct WriteRefused {
     pub refusal: Refusal,
     /// The opcode of the refused command; 0 where there is none.
     pub opcode: u8,
-    /// CREADR, where a command was refused; the offset given, of a refused
-    /// CWRITER; else 0.
+    /// CREADR, where a command was refused or too many wait (5); the offset
+    /// taken, of a refused CWRITER; else 0.
     pub offset: u64,
     /// The commands carried out before.
     pub done: u64,
@@ -112,7 +112,7 @@ pub struct WriteRefused {
 
 impl WriteRefused {
     /// Whether a command was refused. It changed nothing and CREADR stands on it;
-    /// those before it were carried out.
+    /// those before it were carried out, and their actions handed over.
     #[inline]
     pub fn is_of_a_command(&self) -> bool {
         matches!(self.refusal.number(), 6 | 8 | 9 | 20..=26)
