@@ -441,6 +441,17 @@ def many(count, word):
     return f"{count} {word}" + "s" * (count != 1)
 
 
+def handed(was, now):
+    """The two forms of a WR line that changed in its count of actions alone, with that many AC lines behind it now; or nothing."""
+    if len(was) != 1 or not now or not was[0].startswith("WR "):
+        return None
+    (before, x), (after, y) = was[0].rsplit(" ", 1), now[0].rsplit(" ", 1)
+    if before != after or [line[:3] for line in now[1:]] != ["AC "] * int(y):
+        return None
+    refusal = before.split(" ")[1]
+    return f"`WR {refusal} .. {x}`", f"`WR {refusal} .. {y}` with {many(int(y), 'AC line')}"
+
+
 def ticked(names):
     return ", ".join(f"`{name}`" for name in names)
 
@@ -592,7 +603,8 @@ class Page:
         self.say(*(f"- {crate} must-fail: {', '.join(of)}" for crate, of in stayed.items()))
 
     def recorded(self):
-        """The lines of the recorded traces. Where a line changed in its refusal alone, as most do, files and lines stand by the two numbers."""
+        """The lines of the recorded traces. Where a line changed in its refusal alone, or a write hands over other actions, as most do, files and lines
+        stand by the two numbers."""
         self.say("", "### 6. Recorded lines")
         a, b = self.before.lines_of, self.after.lines_of
         for how, names in (NEW, b.keys() - a.keys()), (GONE, a.keys() - b.keys()):
@@ -602,6 +614,10 @@ class Page:
         for name in sorted(a.keys() & b.keys()):
             files += a[name] != b[name]
             for tag, i, j, k, l in difflib.SequenceMatcher(None, a[name], b[name], False).get_opcodes() if a[name] != b[name] else ():
+                actions = handed(a[name][i:j], b[name][k:l])
+                if actions:
+                    told.setdefault(actions, {}).setdefault(name, []).append(str(k + 1))
+                    continue
                 for number, (was, now) in enumerate(zip(a[name][i:j], b[name][k:l]), k + 1) if tag == "replace" and j - i == l - k else ():
                     x, y = was.split(" "), now.split(" ")
                     if x[:1] + x[2:] == y[:1] + y[2:]:
