@@ -31,6 +31,7 @@ pub fn refusal_number(refusal: Refusal) -> u64
         Refusal::CollectionUnmapped => 24,
         Refusal::PairUnmapped => 25,
         Refusal::ProcessorUnlisted => 26,
+        Refusal::DeviceTooLarge => 27,
         Refusal::ResourceNotFound => 8,
         Refusal::TableFull => 9,
         Refusal::LineDoesNotFit => 11,

@@ -11,18 +11,19 @@ use Rattle.model.specs.declared.ItsState.{ItsState}
 use Rattle.model.specs.declared.Register.{Register}
 use Rattle.model.specs.declared.Verdict.the-variants.{Accepted}
 use Rattle.model.specs.Arm.{isIdentification}
-use Rattle.model.specs.Config.{soundConfig, soundUnit}
+use Rattle.model.specs.Config.{sizesIn01, soundConfig, soundUnit}
 use Rattle.model.specs.Register.{registerAt, takesWidth}
 use Rattle.model.specs.Access.{inFrame, checkAccess}
 use Rattle.model.proofs.Cases.{cases, never, and-left, and-right, both}
+use Rattle.model.proofs.Profiles.{sizes-of}
 use Rattle.arm_agreement.specs.Registers.{Reg, CTLR, IIDR, TYPER, CBASER, CWRITER, CREADR, BASER, Piece, whole, low, high, has, offset-of, width-of}
 use Rattle.arm_agreement.specs.Seen.{asRegister}
 
 -- the frame is no smaller than 65,536 bytes
 frame : (k : ItsConfig) → soundConfig k ≡ true → 65536 ≤ k .«frame_size»
-unfolding soundConfig
+unfolding sizesIn01
 frame k ok =
-    let sizes = and-left (eqb (k .«frame_size») 65536 || eqb (k .«frame_size») 131072) _ (and-right (leb 1 (k .«command_budget») && leb (k .«command_budget») 1024) _ (and-right (leb 8192 (k .«lpi_limit») && leb (k .«lpi_limit») 16777215) _ ok)) in
+    let sizes = and-left (eqb (k .«frame_size») 65536 || eqb (k .«frame_size») 131072) _ (and-right (leb 1 (k .«command_budget») && leb (k .«command_budget») 1024) _ (and-right (leb 8192 (k .«lpi_limit») && leb (k .«lpi_limit») 16777215) _ (sizes-of k ok))) in
     cases (eqb (k .«frame_size») 65536)
     (λ h. omega (arith, eqb-true (k .«frame_size») 65536 h))
     (λ h. omega (arith, eqb-true (k .«frame_size») 131072 (rw h at sizes)))

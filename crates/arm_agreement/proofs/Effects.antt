@@ -13,10 +13,12 @@ use Rattle.model.specs.declared.ItsState.{ItsState}
 use Rattle.model.specs.declared.Command.{Command}
 use Rattle.model.specs.declared.Command.the-variants.{Mapd, Mapc, Mapti, Mapi, Movi, Discard}
 use Rattle.model.specs.Choose.{if_then_else_, whenFound, ifFound}
+use Rattle.model.specs.Profile.{profileOf, mapdEnds}
 use Rattle.model.specs.Step.{collectionOf, translationOf, effect, accepts}
 use Rattle.model.specs.History.{after, Says, maps-it, unmaps-it, silent, ofDeviceSays, ofCollectionSays, Part, maps, moves, ends, endsIn, leaves, partIn, PairEntry, pairAfter}
-use Rattle.model.proofs.Cases.{cases}
-use Rattle.model.proofs.Effects.{targetIn, entryIn, entryOf, devices-effect, collections-effect, pairs-effect}
+use Rattle.model.proofs.Cases.{cases, never}
+use Rattle.model.proofs.Backing.{always}
+use Rattle.model.proofs.Effects.{targetIn, entryIn, entryOf, Clean, devices-effect, collections-effect, pairs-effect}
 use Rattle.arm_agreement.specs.Commands.{ArmCommand, MAPD, MAPC, MAPTI, MAPI, MOVI, INT, CLEAR, DISCARD, INV, INVALL, SYNC, MOVALL}
 use Rattle.arm_agreement.specs.Mappings.{Interrupt, interrupt, Mappings, put, does}
 use Rattle.arm_agreement.specs.Seen.{dev, ev, col, lpi, cpu, asCommand, takes, armOf, Tables}
@@ -80,12 +82,12 @@ module _ (u : ItsState) (y : Command) (ok : accepts u y ≡ true) where
       ∙ (numbered-after (ofCollectionSays (col c) y) (targetIn u (col c))
       ∙ ap (after (numbered-says (ofCollectionSays (col c) y))) (sym (target-seen (collectionOf u (col c))))))
 
-  event-after : (d e : ℕ) → armOf (effect u y) .event d e ≡ part-after (partIn (dev d) (ev e) y) (armOf u .event d e)
-  event-after d e =
+  event-after : Clean u y → (d e : ℕ) → armOf (effect u y) .event d e ≡ part-after (partIn (profileOf (u .config)) (dev d) (ev e) y) (armOf u .event d e)
+  event-after clean d e =
       entry-seen (translationOf (effect u y) (dev d) (ev e))
-      ∙ (ap as-interrupt (pairs-effect u y ok (dev d) (ev e))
-      ∙ (interrupt-after (partIn (dev d) (ev e) y) (entryIn u (dev d) (ev e))
-      ∙ ap (part-after (partIn (dev d) (ev e) y)) (sym (entry-seen (translationOf u (dev d) (ev e))))))
+      ∙ (ap as-interrupt (pairs-effect u y clean ok (dev d) (ev e))
+      ∙ (interrupt-after (partIn (profileOf (u .config)) (dev d) (ev e) y) (entryIn u (dev d) (ev e))
+      ∙ ap (part-after (partIn (profileOf (u .config)) (dev d) (ev e) y)) (sym (entry-seen (translationOf u (dev d) (ev e))))))
 
 -- the unit after a command, or the same unit for one that it does not know
 abbrev pub effect-on : ItsState → ArmCommand → ItsState
@@ -105,6 +107,16 @@ unused c none h = refl
 unused c (some x) h = rw (h x refl)
 
 module _ (u : ItsState) (t : Tables) where
+  -- R01: of a device without events there is nothing to drop
+  no-events : (d bits : ℕ) → ((e : ℕ) → armOf u .event d e ≡ none) → Clean u (Mapd (dev d) bits true)
+  no-events d bits new d′ bits′ m n e =
+      let same : dev d ≡ d′ = cc in
+      rw (← same) (seen (translationOf u (dev d) e) (new (e .0)))
+    where
+      seen : (o : Option Translation) → whenFound o (λ r. some (interrupt (r .lpi .0) (r .collection .0))) ≡ none → whenFound o (λ r. some (entryOf r)) ≡ none
+      seen none q = refl
+      seen (some r) q = never true refl (cc)
+
   pub effect-as-arm : (x : ArmCommand) → Under u t x → takes u x ≡ true → armOf (effect-on u x) ≡ does x (armOf u)
   unfolding ofDeviceSays ofCollectionSays partIn
   effect-as-arm (MAPD d size itt true) k ok =
@@ -112,43 +124,46 @@ module _ (u : ItsState) (t : Tables) where
       same _ _
       (λ d′. device-after u y ok d′ ∙ cases (eqb d d′) (λ h. rw h) (λ h. rw h))
       (λ c′. collection-after u y ok c′)
-      (λ d′ e′. event-after u y ok d′ e′ ∙ cases (eqb d d′) (λ h. rw (h, ← (eqb-true d d′ h)) (k .R01-device-is-new e′)) (λ h. rw h))
+      (λ d′ e′. event-after u y ok (no-events d (size + 1) (k .R01-device-is-new)) d′ e′
+      ∙ cases (mapdEnds (profileOf (u .config)) true)
+      (λ m. cases (eqb d d′) (λ h. rw (m, h)) (λ h. rw (m, h)))
+      (λ m. cases (eqb d d′) (λ h. rw (m, h, ← (eqb-true d d′ h)) (k .R01-device-is-new e′)) (λ h. rw (m, h))))
   effect-as-arm (MAPD d size itt false) k ok =
       let y = Mapd (dev d) (size + 1) false in
       same _ _
       (λ d′. device-after u y ok d′ ∙ cases (eqb d d′) (λ h. rw h) (λ h. rw h))
       (λ c′. collection-after u y ok c′)
-      (λ d′ e′. event-after u y ok d′ e′ ∙ cases (eqb d d′) (λ h. rw h) (λ h. rw h))
+      (λ d′ e′. event-after u y ok (λ d bits m. never true refl (cc)) d′ e′ ∙ rw (always (profileOf (u .config))) (cases (eqb d d′) (λ h. rw h) (λ h. rw h)))
   effect-as-arm (MAPC c p true) k ok =
       let y = Mapc (col c) (cpu p) true in
       same _ _
       (λ d′. device-after u y ok d′)
       (λ c′. collection-after u y ok c′ ∙ cases (eqb c c′) (λ h. rw h) (λ h. rw h))
-      (λ d′ e′. event-after u y ok d′ e′)
+      (λ d′ e′. event-after u y ok (λ d bits m. never true refl (cc)) d′ e′)
   effect-as-arm (MAPC c p false) k ok =
       let y = Mapc (col c) (cpu p) false in
       same _ _
       (λ d′. device-after u y ok d′)
       (λ c′. collection-after u y ok c′ ∙ cases (eqb c c′) (λ h. rw h) (λ h. rw h))
-      (λ d′ e′. event-after u y ok d′ e′ ∙ unused c (armOf u .event d′ e′) (k .R09-unused d′ e′))
+      (λ d′ e′. event-after u y ok (λ d bits m. never true refl (cc)) d′ e′ ∙ unused c (armOf u .event d′ e′) (k .R09-unused d′ e′))
   effect-as-arm (MAPTI d e l c) k ok =
       let y = Mapti (dev d) (ev e) (lpi l) (col c) in
       same _ _
       (λ d′. device-after u y ok d′)
       (λ c′. collection-after u y ok c′)
-      (λ d′ e′. event-after u y ok d′ e′ ∙ one-event (maps (lpi l) (col c)) d e (armOf u .event) d′ e′)
+      (λ d′ e′. event-after u y ok (λ d bits m. never true refl (cc)) d′ e′ ∙ one-event (maps (lpi l) (col c)) d e (armOf u .event) d′ e′)
   effect-as-arm (MAPI d e c) k ok =
       let y = Mapi (dev d) (ev e) (col c) in
       same _ _
       (λ d′. device-after u y ok d′)
       (λ c′. collection-after u y ok c′)
-      (λ d′ e′. event-after u y ok d′ e′ ∙ one-event (maps (lpi e) (col c)) d e (armOf u .event) d′ e′)
+      (λ d′ e′. event-after u y ok (λ d bits m. never true refl (cc)) d′ e′ ∙ one-event (maps (lpi e) (col c)) d e (armOf u .event) d′ e′)
   effect-as-arm (MOVI d e c) k ok =
       let y = Movi (dev d) (ev e) (col c) in
       same _ _
       (λ d′. device-after u y ok d′)
       (λ c′. collection-after u y ok c′)
-      (λ d′ e′. event-after u y ok d′ e′ ∙ one-event (moves (col c)) d e (armOf u .event) d′ e′)
+      (λ d′ e′. event-after u y ok (λ d bits m. never true refl (cc)) d′ e′ ∙ one-event (moves (col c)) d e (armOf u .event) d′ e′)
   effect-as-arm (INT d e) k ok = refl
   effect-as-arm (CLEAR d e) k ok = refl
   effect-as-arm (DISCARD d e) k ok =
@@ -156,7 +171,7 @@ module _ (u : ItsState) (t : Tables) where
       same _ _
       (λ d′. device-after u y ok d′)
       (λ c′. collection-after u y ok c′)
-      (λ d′ e′. event-after u y ok d′ e′ ∙ one-event ends d e (armOf u .event) d′ e′)
+      (λ d′ e′. event-after u y ok (λ d bits m. never true refl (cc)) d′ e′ ∙ one-event ends d e (armOf u .event) d′ e′)
   effect-as-arm (INV d e) k ok = refl
   effect-as-arm (INVALL c) k ok = refl
   effect-as-arm (SYNC p) k ok = refl

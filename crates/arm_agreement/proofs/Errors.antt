@@ -10,12 +10,13 @@ use Rattle.model.specs.declared.Refusal.{Refusal}
 use Rattle.model.specs.declared.Verdict.the-variants.{Accepted, Refused}
 use Rattle.model.specs.Choose.{_or_then_, whenFound, ifFound, isFound}
 use Rattle.model.specs.Config.{listed}
-use Rattle.model.specs.Step.{deviceOf, collectionOf, translationOf, deliveryIn, lpiInRange, eventBelow, deviceMapped, eventFits, collectionMapped, pairMapped, pairTranslates, checkMapping, isAccepted}
+use Rattle.model.specs.Step.{deviceOf, collectionOf, translationOf, deliveryIn, lpiInRange, eventBelow, deviceMapped, eventFits, collectionMapped, pairMapped, pairTranslates, checkMapping, tooLarge, isAccepted}
 use Rattle.model.proofs.Cases.{cases, found-when}
+use Rattle.model.proofs.Profiles.{announced-small}
 use Rattle.arm_agreement.specs.Commands.{ArmCommand, MAPD, MAPC, MAPTI, MAPI, MOVI, INT, CLEAR, DISCARD, INV, INVALL, SYNC, MOVALL}
 use Rattle.arm_agreement.specs.Mappings.{interrupt, Mappings, Announced, is-LPI, event-of, names-event, names-collection, names-interrupt, no-error}
 use Rattle.arm_agreement.specs.Seen.{dev, ev, col, lpi, cpu, takes, armOf, Tables, announcedBy}
-use Rattle.arm_agreement.specs.Conditions.{WellMapped, AnEvent, ACollection, MapsEvent, Under}
+use Rattle.arm_agreement.specs.Conditions.{WellMapped, ADevice, AnEvent, ACollection, MapsEvent, Under}
 
 -- the checks of MAPTI and MAPI, in the unit's order and as one test
 mapping-checks : (l d e c : Bool) (r s t v : Refusal) → (e ≡ true → d ≡ true) →
@@ -101,19 +102,23 @@ module _ (u : ItsState) (t : Tables) where
         both-found (translationOf u (dev d) (ev e)) (λ r. collectionOf u (r .collection)) _
         (λ r s. sym (collection-seen (r .collection .0)) ∙ kept .R09-in-a-collection d e (interrupt (r .lpi .0) (r .collection .0)) (rw s))
 
+    -- R17: a device that is announced is not too large
+    not-large : (d : ℕ) → ADevice u t d → tooLarge (u .config) (dev d) ≡ false
+    not-large d k = announced-small (u .config) (dev d) (k .R17-announced)
+
     pub errors-as-arm : (x : ArmCommand) → Under u t x → takes u x ≡ no-error said now x
-    errors-as-arm (MAPD d size itt true) k = rw (k .S01-room, k .of-device .R17-announced, k .of-device .R22-R23-in-the-table, k .R18-announced)
-    errors-as-arm (MAPD d size itt false) k = rw (k .R17-announced, k .R22-R23-in-the-table)
+    errors-as-arm (MAPD d size itt true) k = rw (not-large d (k .of-device), k .S01-room, k .of-device .R17-announced, k .of-device .R22-R23-in-the-table, k .R18-announced)
+    errors-as-arm (MAPD d size itt false) k = rw (not-large d k, k .R17-announced, k .R22-R23-in-the-table)
     errors-as-arm (MAPC c p true) k = rw (k .S01-room, k .of-collection .R20-in-the-table) (one-check (listed (u .config) (cpu p)) _)
     errors-as-arm (MAPC c p false) k = rw (k .of-collection .R20-in-the-table)
-    errors-as-arm (MAPTI d e l c) k = mapping d e l c k
-    errors-as-arm (MAPI d e c) k = mapping d e e c k
+    errors-as-arm (MAPTI d e l c) k = rw (not-large d (k .of-event .of-device)) (mapping d e l c k)
+    errors-as-arm (MAPI d e c) k = rw (not-large d (k .of-event .of-device)) (mapping d e e c k)
     errors-as-arm (MOVI d e c) k =
-        rw (announced-interrupt d e (k .of-event), announced-collection c (k .of-collection)) (two-checks (collectionMapped u (col c)) (pairMapped u (dev d) (ev e)) _ _)
-    errors-as-arm (INT d e) k = one-check (pairTranslates u (dev d) (ev e)) _ ∙ (translating d e ∙ sym (announced-interrupt d e k))
-    errors-as-arm (CLEAR d e) k = one-check (pairTranslates u (dev d) (ev e)) _ ∙ (translating d e ∙ sym (announced-interrupt d e k))
-    errors-as-arm (DISCARD d e) k = one-check (pairMapped u (dev d) (ev e)) _ ∙ sym (announced-interrupt d e k)
-    errors-as-arm (INV d e) k = one-check (pairMapped u (dev d) (ev e)) _ ∙ sym (announced-interrupt d e k)
+        rw (not-large d (k .of-event .of-device), announced-interrupt d e (k .of-event), announced-collection c (k .of-collection)) (two-checks (collectionMapped u (col c)) (pairMapped u (dev d) (ev e)) _ _)
+    errors-as-arm (INT d e) k = rw (not-large d (k .of-device)) (one-check (pairTranslates u (dev d) (ev e)) _ ∙ (translating d e ∙ sym (announced-interrupt d e k)))
+    errors-as-arm (CLEAR d e) k = rw (not-large d (k .of-device)) (one-check (pairTranslates u (dev d) (ev e)) _ ∙ (translating d e ∙ sym (announced-interrupt d e k)))
+    errors-as-arm (DISCARD d e) k = rw (not-large d (k .of-device)) (one-check (pairMapped u (dev d) (ev e)) _ ∙ sym (announced-interrupt d e k))
+    errors-as-arm (INV d e) k = rw (not-large d (k .of-device)) (one-check (pairMapped u (dev d) (ev e)) _ ∙ sym (announced-interrupt d e k))
     errors-as-arm (INVALL c) k = one-check (collectionMapped u (col c)) _ ∙ sym (announced-collection c k)
     errors-as-arm (SYNC p) k = sym (k .R38-processor)
     errors-as-arm (MOVALL p q) k = absurd k

@@ -5,13 +5,16 @@ use native.Mathlib.Omega.{arith}
 use mathlib.Core.Path.{_≡_, refl, sym, ap, _∙_}
 use mathlib.Core.Bool.{true, false}
 use mathlib.Core.List.{List}
+use lib.Dec.{eqb}
+use borrow.Author.Tests.{eqb-true}
 use Rattle.model.specs.declared.ItsState.{ItsState}
 use Rattle.model.specs.declared.ItsAction.{ItsAction}
 use Rattle.model.specs.declared.RegisterWrite.{RegisterWrite}
 use Rattle.model.specs.declared.WriteAnswer.the-variants.{Taken}
+use Rattle.model.specs.Arm.{_of_, CBASER·Valid}
 use Rattle.model.specs.With.{withRegisters, withReader}
 use Rattle.model.specs.Config.{soundUnit}
-use Rattle.model.specs.Queue.{Window, run, waiting}
+use Rattle.model.specs.Queue.{Window, run, waiting, mayRun}
 use Rattle.model.specs.Entry.{Outcome, stores, write}
 use Rattle.model.specs.Passed.{ringOffset, commandsPassed, CarriedOut}
 use Rattle.model.proofs.Cases.{never}
@@ -21,6 +24,7 @@ use Rattle.model.proofs.Runs.{run-keeps}
 use Rattle.model.proofs.Answers.{taken-of}
 use Rattle.model.proofs.Ways.{Way, checked, no-base, no-writer, quiet, based, off, over, ran, way, as-run, ranBy, run-kept, stays-sound}
 use Rattle.model.proofs.Held.{carried-out}
+use Rattle.model.proofs.Profiles.{off-may, valid-may}
 use Rattle.arm_agreement.specs.Runs.{unitBy, doneBy}
 
 -- s is what the write does to the registers, o its outcome
@@ -34,20 +38,22 @@ pub record Comes (w : Window) (u : ItsState) (s : RegisterWrite) (o : Outcome) :
   pub carried : CarriedOut (withRegisters u (s .registers)) (commandsPassed w (u .registers) (doneBy o)) handed (unitBy o)
   -- a disabled unit runs nothing
   pub disabled : s .registers .enabled ≡ false → doneBy o ≡ 0
-  -- a write that is taken and lets an enabled unit run leaves no command waiting
-  pub taken : (done actions : ℕ) → o .written .answer ≡ Taken done actions → s .runs ≡ true → s .registers .enabled ≡ true → unitBy o .registers .creadr ≡ s .registers .cwriter
+  -- a write that is taken and lets an enabled unit run whose ring is valid leaves no command waiting
+  pub taken : (done actions : ℕ) → o .written .answer ≡ Taken done actions → s .runs ≡ true → s .registers .enabled ≡ true →
+      eqb (CBASER·Valid of u .registers .cbaser) 1 ≡ true → unitBy o .registers .creadr ≡ s .registers .cwriter
 
 module _ (w : Window) (row : List ItsAction) (u : ItsState) (offset width value : ℕ) where
   to-writer : {s : RegisterWrite} {o : Outcome} → Way w row u offset width value s o → (done actions : ℕ) → o .written .answer ≡ Taken done actions →
-      s .runs ≡ true → s .registers .enabled ≡ true → unitBy o .registers .creadr ≡ s .registers .cwriter
-  to-writer (checked why c) done actions t runs on = never true refl (sym runs)
-  to-writer (no-base sound) done actions t runs on = never true refl (sym runs)
-  to-writer (no-writer sound at) done actions t runs on = never true refl (sym runs)
-  to-writer (quiet s g) done actions t runs on = never true refl (sym runs)
-  to-writer (based s c k z) done actions t runs on = never true refl (sym runs)
-  to-writer (off s g out) done actions t runs on = never (s .enabled) on out
-  to-writer (over s g _ more) done actions t runs on = never true refl (cc)
-  to-writer (ran s g _ within) done actions t runs on =
+      s .runs ≡ true → s .registers .enabled ≡ true → eqb (CBASER·Valid of u .registers .cbaser) 1 ≡ true → unitBy o .registers .creadr ≡ s .registers .cwriter
+  to-writer (checked why c) done actions t runs on valid = never true refl (sym runs)
+  to-writer (no-base sound) done actions t runs on valid = never true refl (sym runs)
+  to-writer (no-writer sound at) done actions t runs on valid = never true refl (sym runs)
+  to-writer (quiet s g) done actions t runs on valid = never true refl (sym runs)
+  to-writer (based s c k z) done actions t runs on valid = never true refl (sym runs)
+  to-writer (off s g out) done actions t runs on valid =
+      never (mayRun (u .config) s) (valid-may (u .config) s on (ap (λ c. CBASER·Valid of c) (g .base) ∙ eqb-true _ _ valid)) out
+  to-writer (over s g _ more) done actions t runs on valid = never true refl (cc)
+  to-writer (ran s g _ within) done actions t runs on valid =
       let q = run w (waiting s) (withRegisters u s) in
       let k = run-keeps w (waiting s) (withRegisters u s) (reader-below s (g .ring)) in
       ap (λ r. r .creadr) (k .registers) ∙ (ap (ringOffset s) (k .all (taken-of q (q .stopped) done actions t)) ∙ waiting-all s (g .ring))
@@ -63,6 +69,6 @@ module _ (w : Window) (row : List ItsAction) (u : ItsState) (offset width value 
         registers = ap (λ v. v .registers) (a .unit) ∙ rw (a .done) (k .registers);
         handed = ranBy w row u offset width value sound a .actions;
         carried = carried-out w row u offset width value sound a;
-        disabled = λ e. omega (arith, a .done, k .at-most, a .disabled e);
+        disabled = λ e. omega (arith, a .done, k .at-most, a .may-not (off-may (u .config) (stores row u offset width value .registers) e));
         taken = to-writer y;
       }

@@ -145,4 +145,4 @@ module _ (t : Tables) (w : Window) (row : List ItsAction) (u : ItsState) (offset
       let h = rw (passed-as w (u .registers) count (c .decodable)) at (k .carried) in
       let f = fetched-all (c .ring) (k .disabled) in
       let l = led-to t (withRegisters u stored) kept passed (unitBy done-write) (k .handed) (rw f h) (c .commands) in
-      record { mappings = l .mappings; kept = l .keeps; all-of-them = k .taken }
+      record { mappings = l .mappings; kept = l .keeps; all-of-them = λ done actions t runs on. k .taken done actions t runs on (c .ring .R27-valid on) }

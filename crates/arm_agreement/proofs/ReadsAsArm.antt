@@ -13,11 +13,12 @@ use Rattle.model.specs.declared.ItsRegisters.{ItsRegisters}
 use Rattle.model.specs.declared.ItsState.{ItsState}
 use Rattle.model.specs.declared.ReadAnswer.the-variants.{Value}
 use Rattle.model.specs.Arm.{_of_, CTLR·Enabled, command-size, of-devices, of-collections, TYPER·Devbits, TYPER·ID-bits}
-use Rattle.model.specs.Config.{queueBase, queueSize, isQueueOffset, soundConfig, soundRing, soundUnit, freshUnit}
+use Rattle.model.specs.Config.{queueBase, queueSize, isQueueOffset, sizesIn01, soundConfig, soundRing, soundUnit, freshUnit}
 use Rattle.model.specs.Register.{bitsNeeded, typerValue, readPart, readOf}
 use Rattle.model.specs.Access.{checkRead}
 use Rattle.model.specs.Entry.{readFrom, read}
 use Rattle.model.proofs.Cases.{cases, never, and-left, and-right}
+use Rattle.model.proofs.Profiles.{sizes-of}
 use Rattle.arm_agreement.specs.Registers.{Reg, CTLR, IIDR, TYPER, CBASER, CWRITER, CREADR, BASER, Piece, whole, low, high, has, offset-of, width-of, part-of}
 use Rattle.arm_agreement.specs.Fields.{one-bit, ShowsCTLR, ShowsIIDR, ShowsTYPER, ShowsCWRITER, ShowsCREADR, ShowsBASER}
 use Rattle.arm_agreement.specs.Conditions.{ReadsCTLR, ReadsTYPER, ReadsCREADR}
@@ -118,9 +119,9 @@ module _ (b n : ℕ) (from : 2 ^ b ≤ n) (to : n < 2 ^ (b + 1)) where
 
 module _ (u : ItsState) where
   limit-below : soundUnit u ≡ true → u .config .«lpi_limit» ≤ 16777215
-  unfolding soundConfig
+  unfolding sizesIn01
   limit-below sound =
-      leb-true _ 16777215 (and-right (leb 8192 (u .config .«lpi_limit»)) _ (and-left (leb 8192 (u .config .«lpi_limit») && leb (u .config .«lpi_limit») 16777215) _ (and-left (soundConfig (u .config)) _ sound)))
+      leb-true _ 16777215 (and-right (leb 8192 (u .config .«lpi_limit»)) _ (and-left (leb 8192 (u .config .«lpi_limit») && leb (u .config .«lpi_limit») 16777215) _ (sizes-of (u .config) (and-left (soundConfig (u .config)) _ sound))))
 
   pub TYPER-as-arm : (b : ℕ) → ReadsTYPER u b → ShowsTYPER (held u TYPER) 8 (b + 1) 16
   unfolding typerValue

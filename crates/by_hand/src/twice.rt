@@ -77,6 +77,30 @@ fn twice() -> ItsState {
     unit
 }
 
+// The same in the strict profile.
+fn strictly(unit: ItsState) -> ItsState {
+    let mut next = unit;
+    let mut config = next.config;
+    config.profile = 1;
+    next.config = config;
+    next
+}
+
+// And without its device.
+fn without_device(unit: ItsState) -> ItsState {
+    let mut next = unit;
+    let free = ItsDevice {
+        device: ItsDeviceId(0),
+        event_bits: 0,
+        used: false,
+    };
+    let mut devices = next.devices;
+    devices[1] = free;
+    devices[4] = free;
+    next.devices = devices;
+    next
+}
+
 fn mapd(bits: u8, valid: bool) -> Command {
     Command::Mapd {
         device: ItsDeviceId(5),
@@ -197,6 +221,7 @@ pub fn commands() {
     device_dropped();
     collection_dropped();
     other_collection_dropped();
+    mapped_in_strict();
 }
 
 fn counting() {
@@ -295,4 +320,27 @@ fn other_collection_dropped() {
     shows_collection(b"  collection in record 3", left, 3, cl(0, 0, 0));
     shows_collection(b"  collection in record 6", left, 6, cl(1, 2, 7));
     shows_pairs(left, pr(1, 9, 8300, 2), pr(1, 9, 8400, 3), pr(0, 0, 0, 0));
+}
+
+// In strict a valid MAPD of a mapped device drops every record of its pairs, and then stores. Of a device that is not mapped it only stores.
+fn mapped_in_strict() {
+    let unit = strictly(twice());
+    let again = executes(b"in strict, MAPD 5 with 2 bits", unit, mapd(2, true), ex(0));
+    shows_device(b"  device in record 1", again, 1, dv(1, 5, 2));
+    shows_device(b"  device in record 4", again, 4, dv(1, 5, 8));
+    shows_pairs(again, pr(0, 0, 0, 0), pr(0, 0, 0, 0), pr(0, 0, 0, 0));
+    let bare = without_device(unit);
+    let first = executes(
+        b"in strict, MAPD 5 where it is not mapped",
+        bare,
+        mapd(2, true),
+        ex(0),
+    );
+    shows_device(b"  device in record 0", first, 0, dv(1, 5, 2));
+    shows_pairs(
+        first,
+        pr(1, 9, 8300, 2),
+        pr(1, 9, 8400, 3),
+        pr(1, 1, 8500, 3),
+    );
 }

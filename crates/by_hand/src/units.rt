@@ -69,6 +69,9 @@ fn limits() {
     let mut small = config(65535);
     small.frame_size = 4096;
     unsound(b"frame 4096", small);
+    let mut third = config(65535);
+    third.profile = 2;
+    unsound(b"profile 2", third);
 }
 
 fn processors() {

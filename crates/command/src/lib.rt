@@ -1,4 +1,4 @@
-// One command carried out on a unit by value: its checks in document 01's order, and then its effect. maps.rt has the commands that map, pairs.rt
+// One command carried out on a unit by value: its checks in their order, and then its effect. maps.rt has the commands that map, pairs.rt
 // those on a pair or a collection that is mapped.
 pub mod maps;
 pub mod pairs;
@@ -6,9 +6,11 @@ pub mod pairs;
 use model::Applied;
 use model::Command;
 use model::Executed;
+use model::ItsConfig;
+use model::ItsDeviceId;
 use model::ItsState;
 ghost use mathlib.Core.Path.{_≡_};
-ghost use Rattle.model.specs.Step.{execution};
+ghost use Rattle.model.specs.Step.{tooLarge, execution};
 
 // The unit after a command, and what the command came to.
 fn carried(unit: ItsState, executed: Executed) -> Applied
@@ -20,6 +22,13 @@ fn carried(unit: ItsState, executed: Executed) -> Applied
         unit: left,
         executed: answer,
     }
+}
+
+// In strict, a device number above 65535.
+fn is_too_large(config: ItsConfig, device: ItsDeviceId) -> bool
+    ensures { λ r. ⌜ r ≡ tooLarge config device ⌝ }
+{
+    (config.profile == 1) & (65535 < device.0)
 }
 
 pub fn execute(unit: ItsState, x: Command) -> Applied

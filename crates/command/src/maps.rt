@@ -14,17 +14,42 @@ use model::Refusal;
 use model::Translation;
 ghost use mathlib.Core.Path.{_≡_};
 ghost use Rattle.model.specs.declared.Command.the-variants.{Mapd, Mapc, Mapti, Mapi};
-ghost use Rattle.model.specs.Step.{lpiInRange, execution};
+ghost use Rattle.model.specs.Step.{lpiInRange, cleared as clearedOf, execution};
+
+// In strict, a device that is mapped loses its translations before it is mapped again.
+fn cleared(unit: ItsState, device: ItsDeviceId) -> ItsState
+    ensures { λ r. ⌜ r ≡ clearedOf device unit ⌝ }
+{
+    let config = unit.config;
+    if config.profile != 1 {
+        return unit;
+    }
+    let devices = unit.devices;
+    let held = tables::find_device(devices, device);
+    if 32 <= held {
+        return unit;
+    }
+    let translations = unit.translations;
+    let left = tables::drop_translations_of(translations, device);
+    let mut next = unit;
+    next.translations = left;
+    next
+}
 
 pub fn map_device(unit: ItsState, device: ItsDeviceId, event_bits: u8, valid: bool) -> Applied
     ensures { λ r. ⌜ r ≡ execution unit (Mapd device «event_bits» valid) ⌝ }
 {
+    if crate::is_too_large(unit.config, device) {
+        return crate::carried(unit, Executed::NotDone(Refusal::DeviceTooLarge));
+    }
     let devices = unit.devices;
-    let mut next = unit;
     if !valid {
         let translations = unit.translations;
-        next.devices = tables::drop_devices(devices, device);
-        next.translations = tables::drop_translations_of(translations, device);
+        let left = tables::drop_devices(devices, device);
+        let kept = tables::drop_translations_of(translations, device);
+        let mut next = unit;
+        next.devices = left;
+        next.translations = kept;
         return crate::carried(next, Executed::Done);
     }
     let at = tables::place_of_device(devices, device);
@@ -36,6 +61,7 @@ pub fn map_device(unit: ItsState, device: ItsDeviceId, event_bits: u8, valid: bo
         event_bits: event_bits,
         used: true,
     };
+    let mut next = cleared(unit, device);
     next.devices[at] = r;
     crate::carried(next, Executed::Done)
 }
@@ -89,6 +115,9 @@ fn map_translation(
 ) -> Applied
     ensures { λ r. ⌜ r ≡ execution unit (Mapti device event lpi collection) ⌝ }
 {
+    if crate::is_too_large(unit.config, device) {
+        return crate::carried(unit, Executed::NotDone(Refusal::DeviceTooLarge));
+    }
     if !lpi_in_range(unit.config, lpi) {
         return crate::carried(unit, Executed::NotDone(Refusal::LpiOutOfRange));
     }

@@ -25,6 +25,9 @@ pub fn move_translation(
 ) -> Applied
     ensures { λ r. ⌜ r ≡ execution unit (Movi device event collection) ⌝ }
 {
+    if crate::is_too_large(unit.config, device) {
+        return crate::carried(unit, Executed::NotDone(Refusal::DeviceTooLarge));
+    }
     let collections = unit.collections;
     let to = tables::find_collection(collections, collection);
     if 32 <= to {
@@ -77,6 +80,9 @@ pub fn deliver(unit: ItsState, device: ItsDeviceId, event: EventId) -> Translate
 pub fn set_pending(unit: ItsState, device: ItsDeviceId, event: EventId, pending: bool) -> Executed
     ensures { λ r. ⌜ r ≡ executed unit (if pending then Int device event else Clear device event) ⌝ }
 {
+    if crate::is_too_large(unit.config, device) {
+        return Executed::NotDone(Refusal::DeviceTooLarge);
+    }
     match deliver(unit, device, event) {
         TranslateAnswer::Delivered(a) => {
             let target = a.target;
@@ -94,6 +100,9 @@ pub fn set_pending(unit: ItsState, device: ItsDeviceId, event: EventId, pending:
 pub fn discard(unit: ItsState, device: ItsDeviceId, event: EventId) -> Applied
     ensures { λ r. ⌜ r ≡ execution unit (Discard device event) ⌝ }
 {
+    if crate::is_too_large(unit.config, device) {
+        return crate::carried(unit, Executed::NotDone(Refusal::DeviceTooLarge));
+    }
     let translations = unit.translations;
     let at = tables::find_pair(translations, device, event);
     if 256 <= at {
@@ -108,6 +117,9 @@ pub fn discard(unit: ItsState, device: ItsDeviceId, event: EventId) -> Applied
 pub fn invalidate(unit: ItsState, device: ItsDeviceId, event: EventId) -> Executed
     ensures { λ r. ⌜ r ≡ executed unit (Inv device event) ⌝ }
 {
+    if crate::is_too_large(unit.config, device) {
+        return Executed::NotDone(Refusal::DeviceTooLarge);
+    }
     let translations = unit.translations;
     let known = tables::find_pair(translations, device, event);
     if 256 <= known {

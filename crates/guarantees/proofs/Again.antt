@@ -21,7 +21,7 @@ use Rattle.model.specs.Config.{queueBase}
 use Rattle.model.specs.Decode.{opcodeOf, decode}
 use Rattle.model.specs.Step.{deliveryIn, checkMapping, check}
 use Rattle.model.specs.With.{withRegisters}
-use Rattle.model.specs.Queue.{Window, commandAt, commandAddress, waiting, Turn, passes, stays, judged, turnOn, turn, carryOut, Ran, goOn, run}
+use Rattle.model.specs.Queue.{Window, commandAt, commandAddress, waiting, Turn, passes, stays, judged, turnOn, turn, carryOut, Ran, goOn, run, mayRun}
 use Rattle.model.specs.Writing.{going}
 use Rattle.model.specs.Entry.{Outcome, afterRun, stores}
 use Rattle.model.specs.Passed.{commandsPassed}
@@ -105,7 +105,7 @@ module _ (w : Window) (row : List ItsAction) (u : ItsState) (offset width value 
   by-way (no-writer sound at) t = never true refl (sym (t .lets-run))
   by-way (quiet s g) t = never true refl (sym (t .lets-run))
   by-way (based s c k z) t = never true refl (sym (t .lets-run))
-  by-way (off s g out) t = never (s .enabled) (t .enabled) out
+  by-way (off s g out) t = never (mayRun (u .config) s) (t .may) out
   by-way (over s g on more) t = absurd (omega (arith, t .within, more))
   by-way (ran s g on within) t =
       let m = waiting s - 1 in

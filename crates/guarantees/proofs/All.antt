@@ -16,6 +16,7 @@ use Rattle.guarantees.proofs.Leaves.{read-leaves, translate-leaves}
 use Rattle.guarantees.proofs.Unsound.{unsound-answers-1, sound-never-1, no-unit-answers-1, refused-configuration}
 use Rattle.guarantees.proofs.Again.{tries-again}
 use Rattle.guarantees.proofs.Later.{tried-later}
+use Rattle.guarantees.proofs.Profiles.{base-as-01, base-led, base-configured, profiles-alike, verdicts-alike}
 
 pub theorems : Theorems
 theorems =
@@ -25,6 +26,11 @@ theorems =
       led-by-calls = led-by-calls;
       example-by-entries = example-by-entries;
       example-by-calls = example-by-calls;
+      base-as-01 = base-as-01;
+      base-led = base-led;
+      base-configured = base-configured;
+      profiles-alike = profiles-alike;
+      verdicts-alike = verdicts-alike;
       actions-given = actions-given;
       call-actions-given = call-actions-given;
       actions-firm = actions-firm;

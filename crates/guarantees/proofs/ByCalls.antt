@@ -20,6 +20,7 @@ use Rattle.model.specs.declared.WriteAnswer.{WriteAnswer}
 use Rattle.model.specs.declared.WriteAnswer.the-variants.{Taken, NotTaken}
 use Rattle.model.specs.declared.TranslateAnswer.{TranslateAnswer}
 use Rattle.model.specs.declared.TranslateAnswer.the-variants.{Delivered, NotDelivered}
+use Rattle.model.specs.Profile.{Profile, profileOf}
 use Rattle.model.specs.Config.{soundConfig}
 use Rattle.model.specs.Keys.{delivery}
 use Rattle.model.specs.Refusal.{verdictNumber, readNumbers, writeNumbers, translateNumbers}
@@ -49,7 +50,7 @@ accepted k h = cases (soundConfig k) (λ e. rw e) (λ e. absurd (omega (arith, r
 
 -- calls lead where the entries lead
 pub led-by-calls : {k : ItsConfig} {u : ItsState} {h : List Command} → LedByCalls k u h → Led k u h
-led-by-calls {k} (its-configure limit budget frame ps s u r told c z) =
+led-by-calls {k} (its-configure ss ps s u r told c z) =
     subst (λ v. Led k v []) (sym (c .0 ∙ ap (λ a. configure a .unit) (sym s)))
     (begins (configure k) (record { answer = refl; numbers = refl }) (accepted k (ap (λ a. verdictNumber (configure a .verdict)) s ∙ sym (c .1 .1) ∙ z)))
 led-by-calls (its-read {u = u} l offset width r told c) = a-read (led-by-calls l) offset width (read u offset width) (reads-as u offset width)
@@ -99,9 +100,9 @@ map-take f (suc n) [] = refl
 map-take f (suc n) (a ∷ l) = ap (λ t. f a ∷ t) (map-take f n l)
 
 -- the actions, in the numbers of the row
-module _ (h : List Command) (w : Window) (u left : ItsState) (after : List ℕ) (r : ℕ) (told : List ℕ) (a : WriteAnswer) (t : Tells (numbersOfWrite a) r told)
-    (given : ActionsGiven h w u (record { unit = left; answer = a }) (map actionIn after)) where
-  actions-told : CallActionsGiven h w u after told
+module _ (f : Profile) (h : List Command) (w : Window) (u left : ItsState) (after : List ℕ) (r : ℕ) (told : List ℕ) (a : WriteAnswer) (t : Tells (numbersOfWrite a) r told)
+    (given : ActionsGiven f h w u (record { unit = left; answer = a }) (map actionIn after)) where
+  actions-told : CallActionsGiven f h w u after told
   actions-told =
       record {
         handed-over = rw (t .0, map-take actionIn (writeNumbers a .actions) after) (given .handed-over);
@@ -137,7 +138,7 @@ calls-told {u = u} m =
 pub calls-in-force : {k : ItsConfig} {u : ItsState} {h : List Command} → LedByCalls k u h → CallsInForce k u h
 calls-in-force l = calls-told (mappings-in-force (led-by-calls l))
 
-pub call-actions-given : {k : ItsConfig} {u : ItsState} {h : List Command} → LedByCalls k u h → OfCallsTo u (λ w u after r told. CallActionsGiven h w u after told)
-call-actions-given {u = u} {h = h} l w row offset width value left after r told c =
+pub call-actions-given : {k : ItsConfig} {u : ItsState} {h : List Command} → LedByCalls k u h → OfCallsTo u (λ w u after r told. CallActionsGiven (profileOf k) h w u after told)
+call-actions-given {k = k} {u = u} {h = h} l w row offset width value left after r told c =
     let (a, (x, t)) = call-writes w row u offset width value left after r told c in
-    actions-told h w u left after r told a t (actions-given (led-by-calls l) w (map actionIn row) offset width value _ _ x)
+    actions-told (profileOf k) h w u left after r told a t (actions-given (led-by-calls l) w (map actionIn row) offset width value _ _ x)

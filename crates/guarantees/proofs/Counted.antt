@@ -18,6 +18,7 @@ use Rattle.model.specs.Choose.{_or_then_, whenFound, isFound, listOf}
 use Rattle.model.specs.Step.{deliveryIn, isAccepted, accepts, actionTo, actionsOn, actionsOf}
 use Rattle.model.specs.Passed.{CarriedOut, nothing, one-more}
 use Rattle.model.proofs.Cases.{never}
+use Rattle.model.proofs.Effects.{own}
 use Rattle.guarantees.specs.Actions.{handsOver, intsAndClears}
 
 -- Each INT and CLEAR has one action.
@@ -34,8 +35,8 @@ one-each v (Mapc c p valid) ok = refl
 one-each v (Mapti d e l c) ok = refl
 one-each v (Mapi d e c) ok = refl
 one-each v (Movi d e c) ok = refl
-one-each v (Int d e) ok = one-found true (deliveryIn v d e) ok
-one-each v (Clear d e) ok = one-found _ (deliveryIn v d e) ok
+one-each v (Int d e) ok = one-found true (deliveryIn v d e) (own v (Int d e) ok)
+one-each v (Clear d e) ok = one-found _ (deliveryIn v d e) (own v (Clear d e) ok)
 one-each v (Discard d e) ok = refl
 one-each v (Inv d e) ok = refl
 one-each v (Invall c) ok = refl

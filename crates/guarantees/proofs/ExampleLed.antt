@@ -18,7 +18,7 @@ use Rattle.model.specs.Passed.{commandOf}
 use Rattle.model.specs.Corners.{withLimit, fresh, exampleMet}
 use Rattle.model.proofs.Computed.{shown}
 use Rattle.its.specs.Contracts.{Configures, Reads, Writes, Translates}
-use Rattle.host.specs.Calls.{processorsGiven, CallConfigures, CallReads, CallWrites, CallTranslates}
+use Rattle.host.specs.Calls.{processorsGiven, noneFurther, CallConfigures, CallReads, CallWrites, CallTranslates}
 use Rattle.guarantees.specs.MappingsInForce.{Led, begins, a-read, a-translation, a-write}
 use Rattle.guarantees.specs.CallsInForce.{LedByCalls, its-configure, its-read, its-translate, its-write}
 use Rattle.guarantees.specs.ExampleCalls.{window, cornerWindow, row, rowLeft, numberRow, numberRowLeft, ExampleByEntries, ExampleByCalls}
@@ -115,8 +115,8 @@ example-by-entries =
 
 -- By the C calls.
 
-call-cf : CallConfigures 65535 64 65536 (0 ∷ 1 ∷ []) unit₀ 0 (0 ∷ 0 ∷ 0 ∷ 0 ∷ 0 ∷ [])
-unfolding shown processorsGiven
+call-cf : CallConfigures (65535 ∷ 64 ∷ 65536 ∷ []) (0 ∷ 1 ∷ []) unit₀ 0 (0 ∷ 0 ∷ 0 ∷ 0 ∷ 0 ∷ [])
+unfolding shown processorsGiven noneFurther
 call-cf = (refl, (refl, refl))
 
 call-wr-cbaser : CallWrites window numberRow unit₀ GITS-CBASER 8 0x8000000040000000 unit₁ numberRow 0 (0 ∷ 0 ∷ 0 ∷ 0 ∷ 0 ∷ [])
@@ -148,9 +148,9 @@ unfolding shown
 call-tr-5-8 = (refl, refl)
 
 led-by-calls : LedByCalls (withLimit 65535) unit₃ exampleMet
-unfolding shown commandOf processorsGiven
+unfolding shown commandOf processorsGiven noneFurther
 led-by-calls =
-    let to₀ : LedByCalls (withLimit 65535) unit₀ [] = its-configure 65535 64 65536 (0 ∷ 1 ∷ []) refl unit₀ 0 _ call-cf refl in
+    let to₀ : LedByCalls (withLimit 65535) unit₀ [] = its-configure (65535 ∷ 64 ∷ 65536 ∷ []) (0 ∷ 1 ∷ []) refl unit₀ 0 _ call-cf refl in
     let to₁ : LedByCalls (withLimit 65535) unit₁ [] = its-write to₀ window numberRow GITS-CBASER 8 0x8000000040000000 unit₁ _ _ _ call-wr-cbaser in
     let to₂ : LedByCalls (withLimit 65535) unit₂ [] = its-write (its-read to₁ GITS-CBASER 4 _ _ call-rd-cbaser) window numberRow GITS-CTLR 4 1 unit₂ _ _ _ call-wr-ctlr in
     let to₃ : LedByCalls (withLimit 65535) unit₃ exampleMet = its-write to₂ window numberRow GITS-CWRITER 8 128 unit₃ _ _ _ call-wr-cwriter in

@@ -59,9 +59,9 @@ firm-told numbers a b p q = ap₂ (λ n t. record { number = n; told = t }) (p .
 same-told : (numbers : List ℕ) (m n : ℕ) (s t : List ℕ) → Tells numbers m s → Tells numbers n t → _≡_ {A = CallAnswer} (record { number = m; told = s }) (record { number = n; told = t })
 same-told numbers m n s t p q = firm-told numbers (record { number = m; told = s }) (record { number = n; told = t }) p q
 
-pub firm-call-configure : (limit budget frame : ℕ) (ps : List ℕ) → Firm CallAnswerUnit (λ o. CallConfigures limit budget frame ps (o .unit) (o .number) (o .told))
-firm-call-configure limit budget frame ps a b p q =
-    let same = same-told (numbersOfVerdict (configure (configGiven limit budget frame ps))) (a .number) (b .number) (a .told) (b .told) (p .1) (q .1) in
+pub firm-call-configure : (ss ps : List ℕ) → Firm CallAnswerUnit (λ o. CallConfigures ss ps (o .unit) (o .number) (o .told))
+firm-call-configure ss ps a b p q =
+    let same = same-told (numbersOfVerdict (configure (configGiven ss ps))) (a .number) (b .number) (a .told) (b .told) (p .1) (q .1) in
     ap₂ (λ o u. record { number = o .number; told = o .told; unit = u }) same (p .0 ∙ sym (q .0))
 
 pub firm-call-write : (w : Window) (row : List ℕ) (u : ItsState) (offset width value : ℕ) → Firm CallAnswerRow (CallWritesAll w row u offset width value)
@@ -111,8 +111,8 @@ answered-entries =
           (besideRow (o .written) (o .row ++ drop room lentRow), record { answer = refl; numbers = refl });
       translate = λ u d e. (translate u d e, record { answer = refl; numbers = refl });
       «its_trace» = λ trace out. (record { number = returned trace out; output = outputAfter trace out }, (refl, refl));
-      «its_configure» = λ limit budget frame ps.
-          let c = configure (configGiven limit budget frame ps) in
+      «its_configure» = λ ss ps.
+          let c = configure (configGiven ss ps) in
           (record { number = verdictNumber (c .verdict); told = numbersOfVerdict c; unit = c .unit }, (refl, (refl, refl)));
       «its_read» = λ u offset width.
           let n = numbersOfRead (read u offset width) in

@@ -16,17 +16,18 @@ use Rattle.model.specs.declared.RegisterWrite.{RegisterWrite}
 use Rattle.model.specs.declared.Command.{Command}
 use Rattle.model.specs.declared.Refusal.{Refusal}
 use Rattle.model.specs.declared.Refusal.the-variants.{Unsound, RowTooShort, InvalidAccess, Identification, BaseZero, WriterRefused, BudgetExceeded, NotInWindow}
-use Rattle.model.specs.declared.Refusal.the-variants.{OpcodeUnknown, LpiOutOfRange, DeviceUnmapped, EventBeyondBits, CollectionUnmapped, PairUnmapped, ProcessorUnlisted, ResourceNotFound, TableFull, LineDoesNotFit}
+use Rattle.model.specs.declared.Refusal.the-variants.{OpcodeUnknown, LpiOutOfRange, DeviceUnmapped, EventBeyondBits, CollectionUnmapped, PairUnmapped, ProcessorUnlisted, DeviceTooLarge, ResourceNotFound, TableFull, LineDoesNotFit}
 use Rattle.model.specs.declared.WriteAnswer.the-variants.{NotTaken}
 use Rattle.model.specs.declared.Written.{Written}
 use Rattle.model.specs.Arm.{command-size}
 use Rattle.model.specs.Refusal.{writeNumbers}
 use Rattle.model.specs.With.{withRegisters, withReader}
 use Rattle.model.specs.Config.{queueSize, soundConfig, soundRing, soundUnit}
-use Rattle.model.specs.Queue.{Window, Stands, distance, waiting, pastCommand}
+use Rattle.model.specs.Queue.{Window, Stands, distance, waiting, pastCommand, mayRun}
 use Rattle.model.specs.Entry.{Outcome, stores, write}
 use Rattle.model.specs.Passed.{ringOffset, CarriedOut, nothing, one-more}
 use Rattle.model.proofs.Cases.{cases, never, and-right}
+use Rattle.model.proofs.Profiles.{may-reader}
 use Rattle.model.proofs.Ring.{reader-below, offset-here}
 use Rattle.model.proofs.Waiting.{waiting-fewer, offset-once}
 use Rattle.model.proofs.Turns.{carried-registers, carried-config, offset-same}
@@ -103,7 +104,7 @@ module _ (w : Window) (row : List ItsAction) (u : ItsState) (offset width value 
   let-run (ran s g on within) h = g
 
 module _ (w : Window) (row : List ItsAction) (u : ItsState) (offset width value : ℕ) (r : Written) (left : List ItsAction)
-    (sound-ring : soundUnit u ≡ true → RingKept (stores row u offset width value) r)
+    (sound-ring : soundUnit u ≡ true → RingKept u (stores row u offset width value) r)
     (commands : CommandsKept w row u (stores row u offset width value) r left)
     (refusal : RefusalKept w u offset width value (stores row u offset width value) r)
     (unsound : soundUnit u ≡ false → r .answer ≡ NotTaken Unsound 0 0 0 0) where
@@ -122,7 +123,7 @@ module _ (w : Window) (row : List ItsAction) (u : ItsState) (offset width value 
     reader = ap (λ z. z .creadr) registers
 
   module _ (sound : soundUnit u ≡ true) where
-    kept : RingKept s r
+    kept : RingKept u s r
     kept = sound-ring sound
 
     -- what is stored
@@ -155,11 +156,11 @@ module _ (w : Window) (row : List ItsAction) (u : ItsState) (offset width value 
     in-budget : done ≤ u .config .«command_budget»
     in-budget =
         cases (s .runs)
-        (λ runs. cases (s .registers .enabled)
+        (λ runs. cases (mayRun (u .config) (s .registers))
         (λ on. cases (leb (waiting (s .registers)) (u .config .«command_budget»))
         (λ l. let few = leb-true (waiting (s .registers)) (u .config .«command_budget») l in omega (arith, kept .at-most))
         (λ l. let none : done ≡ 0 = ap (λ a. writeNumbers a .done) (refusal .too-many runs on (leb-false _ _ l)) in omega arith))
-        (λ out. omega (arith, kept .disabled out)))
+        (λ out. omega (arith, kept .may-not out)))
         (λ idle. omega (arith, kept .not-run idle))
 
     ring-from : RingFollows u s r
@@ -220,6 +221,7 @@ module _ (w : Window) (row : List ItsAction) (u : ItsState) (offset width value 
   elsewhere CollectionUnmapped other opcode at n k h = absurd (other refl)
   elsewhere PairUnmapped other opcode at n k h = absurd (other refl)
   elsewhere ProcessorUnlisted other opcode at n k h = absurd (other refl)
+  elsewhere DeviceTooLarge other opcode at n k h = absurd (other refl)
   elsewhere BudgetExceeded other opcode at n k h =
       let limit = refusal .only-then opcode at n k h in
       zeros BudgetExceeded (refusal .too-many (limit .0) (limit .1) (limit .2)) opcode at n k h
@@ -252,10 +254,13 @@ module _ (w : Window) (row : List ItsAction) (u : ItsState) (offset width value 
     remain : waiting (r .unit .registers) ≡ waiting (s .registers) - done
     remain = rw (registers (stored .ring)) (waiting-after (s .registers) (stored .ring) done (kept was-sound .at-most))
 
+    may-before : mayRun (u .config) (s .registers) ≡ true
+    may-before = ap (λ k. mayRun k (s .registers)) (sym (same-config (commands .carried))) ∙ stop .may
+
     within : waiting (s .registers) ≤ u .config .«command_budget»
     within =
         cases (leb (waiting (s .registers)) (u .config .«command_budget»)) (λ l. leb-true (waiting (s .registers)) (u .config .«command_budget») l)
-        (λ l. let told = refusal .too-many (stop .lets-run) (stop .enabled) (leb-false (waiting (s .registers)) (u .config .«command_budget») l) in
+        (λ l. let told = refusal .too-many (stop .lets-run) may-before (leb-false (waiting (s .registers)) (u .config .«command_budget») l) in
         let five : NotTaken why opcode at n k ≡ NotTaken BudgetExceeded 0 (s .registers .creadr) 0 0 = sym h ∙ told in
         let same : BudgetExceeded ≡ why = cc in
         let two : at-budget ≡ at-command = ap givenAt same ∙ place in
@@ -271,7 +276,7 @@ module _ (w : Window) (row : List ItsAction) (u : ItsState) (offset width value 
           waited = omega (arith, number, remain, stop .waits);
           within = within;
           remain = rw (← number) remain;
-          still-enabled = ap (λ z. z .enabled) (registers (stored .ring)) ∙ stop .enabled;
+          may-still = rw (registers (stored .ring)) (may-reader (r .unit .config) (s .registers) _ ∙ stop .may);
           opcode-read = staying (r .unit) w why opcode (stop .fails) .1;
         }
 

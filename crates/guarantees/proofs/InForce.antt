@@ -7,6 +7,8 @@ use Rattle.model.specs.declared.ItsConfig.{ItsConfig}
 use Rattle.model.specs.declared.ItsState.{ItsState}
 use Rattle.model.specs.declared.Command.{Command}
 use Rattle.model.specs.Entry.{stores}
+use Rattle.model.specs.Profile.{profileOf}
+use Rattle.model.proofs.Profiles.{is-strict}
 use Rattle.model.proofs.Held.{Held, configured-held, write-held, promised, translates, nowhere, only-8}
 use Rattle.guarantees.specs.Actions.{passedBy, ActionsGiven}
 use Rattle.guarantees.specs.Kept.{CommandsKept}
@@ -26,7 +28,7 @@ held {k} (a-write {u = u} {h = h} l w row offset width value r left e) =
 -- so what is demanded holds of it, with what every write keeps of the commands
 demanded : {k : ItsConfig} {u : ItsState} {h : List Command} → Held k u h →
     OfWritesTo u (λ w row offset width value r left. CommandsKept w row u (stores row u offset width value) r left) → MappingsInForce k u h
-demanded {u = u} m commands =
+demanded {k = k} {u = u} m commands =
     record {
       config = m .config;
       sound = m .sound;
@@ -35,6 +37,7 @@ demanded {u = u} m commands =
       only-8 = λ d e r q why h. only-8 m d e why (sym (q .answer) ∙ h);
       numbers = λ d e r q why h. rw (h, only-8 m d e why (sym (q .answer) ∙ h)) refl;
       backed = promised m .backed;
+      below-capacity = λ s d e x c i. promised m .below (is-strict k s) d e x c (rw s i);
       never-1 = sound-never-1 u (m .sound);
       commands = commands;
     }
@@ -43,5 +46,5 @@ demanded {u = u} m commands =
 pub mappings-in-force : {k : ItsConfig} {u : ItsState} {h : List Command} → Led k u h → MappingsInForce k u h
 mappings-in-force {u = u} l = demanded (held l) (λ w row offset width value r left e. commands-kept w row u offset width value r left e)
 
-pub actions-given : {k : ItsConfig} {u : ItsState} {h : List Command} → Led k u h → OfWritesTo u (λ w row offset width value r left. ActionsGiven h w u r left)
+pub actions-given : {k : ItsConfig} {u : ItsState} {h : List Command} → Led k u h → OfWritesTo u (λ w row offset width value r left. ActionsGiven (profileOf k) h w u r left)
 actions-given l = actions-held (held l)

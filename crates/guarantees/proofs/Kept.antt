@@ -26,13 +26,13 @@ use Rattle.guarantees.proofs.Stopped.{commands-run}
 module _ (w : Window) (row : List ItsAction) (u : ItsState) (offset width value : ℕ) where
   -- THE RING.
   module _ (sound : soundUnit u ≡ true) {s : RegisterWrite} {o : Outcome} (a : AsRun w row u offset width value s o) where
-    ring-by-run : (s .runs ≡ false → doneIn (o .written) ≡ 0) → RingKept s (o .written)
+    ring-by-run : (s .runs ≡ false → doneIn (o .written) ≡ 0) → RingKept u s (o .written)
     ring-by-run none-run =
         record {
           sound = stays-sound w row u offset width value sound a;
           at-most = rw (a .done) (fewer w row u offset width value sound a);
           not-run = none-run;
-          disabled = λ e. omega (arith, a .done, run-kept w row u offset width value sound a .at-most, a .disabled e);
+          may-not = λ e. omega (arith, a .done, run-kept w row u offset width value sound a .at-most, a .may-not e);
         }
 
   -- a write that lets no queue run
@@ -70,7 +70,7 @@ module _ (w : Window) (row : List ItsAction) (u : ItsState) (offset width value 
 
   -- THE THEOREMS.
   module _ (r : Written) (left : List ItsAction) (e : Writes w row u offset width value r left) where
-    pub ring-kept : soundUnit u ≡ true → RingKept (stores row u offset width value) r
+    pub ring-kept : soundUnit u ≡ true → RingKept u (stores row u offset width value) r
     ring-kept sound =
         let y = way w row u offset width value in
         rw (e .answer) (ring-by-run sound (as-run w row u offset width value sound y) (idle y))

@@ -18,7 +18,7 @@ use Rattle.model.specs.declared.Verdict.the-variants.{Accepted}
 use Rattle.model.specs.declared.WriteAnswer.the-variants.{NotTaken}
 use Rattle.model.specs.declared.Written.{Written}
 use Rattle.model.specs.Arm.{GITS-CTLR, LPI-base}
-use Rattle.model.specs.Config.{processorsOf, noneTwice, soundConfig, soundUnit}
+use Rattle.model.specs.Config.{processorsOf, noneTwice, sizesIn01, soundConfig, soundUnit}
 use Rattle.model.specs.With.{withRegisters, withEnabled}
 use Rattle.model.specs.Queue.{Window}
 use Rattle.model.specs.Register.{registerAt}
@@ -26,6 +26,7 @@ use Rattle.model.specs.Access.{checkAccess, checkWrite}
 use Rattle.model.specs.Writing.{going, enables, toCtlr, registerWrite}
 use Rattle.model.specs.Entry.{stores}
 use Rattle.model.proofs.Cases.{cases, and-left, and-right}
+use Rattle.model.proofs.Profiles.{sizes-of, may-enabled}
 use Rattle.its.specs.Contracts.{Writes}
 use Rattle.guarantees.specs.Refusals.{at-command, givenAt, IfRefused}
 use Rattle.guarantees.specs.Retries.{Tries, TriedLater}
@@ -41,13 +42,13 @@ four-fit : (size : ℕ) → (eqb size 65536 || eqb size 131072) ≡ true → leb
 four-fit size h = cases (eqb size 65536) (λ y. rw (eqb-true size 65536 y)) (λ n. rw (eqb-true size 131072 (rw n at h)))
 
 frame-sound : (k : ItsConfig) → soundConfig k ≡ true → leb 4 (k .«frame_size») ≡ true
-unfolding soundConfig
+unfolding sizesIn01
 frame-sound k h =
     let limit = leb LPI-base (k .«lpi_limit») && leb (k .«lpi_limit») 16777215 in
     let budget = leb 1 (k .«command_budget») && leb (k .«command_budget») 1024 in
     let frame = eqb (k .«frame_size») 65536 || eqb (k .«frame_size») 131072 in
     let processors = (leb 1 (k .«processor_count») && leb (k .«processor_count») 16) && noneTwice (processorsOf k) in
-    four-fit (k .«frame_size») (and-left frame processors (and-right budget (frame && processors) (and-right limit (budget && (frame && processors)) h)))
+    four-fit (k .«frame_size») (and-left frame processors (and-right budget (frame && processors) (and-right limit (budget && (frame && processors)) (sizes-of k h))))
 
 ctlr-taken : (k : ItsConfig) → soundConfig k ≡ true → checkAccess k GITS-CTLR 4 ≡ Accepted
 unfolding checkAccess registerAt
@@ -81,10 +82,10 @@ module _ (w : Window) (row : List ItsAction) (u : ItsState) (offset width value 
       record {
         again = λ w′ row′ offset′ width′ value′ r left′ e′ t. tries-again w′ row′ (v .unit) offset′ width′ value′ r left′ e′ t;
         same = λ row′ value′ r left′ e′ room enabling.
-            let same = ctlr-same (v .unit) row′ value′ sound room (q .still-enabled) enabling in
+            let same = ctlr-same (v .unit) row′ value′ sound room (may-enabled (v .unit .config) (v .unit .registers) (q .may-still)) enabling in
             let t : Tries (v .unit) (going (v .unit .registers)) = record {
               lets-run = refl;
-              enabled = q .still-enabled;
+              may = q .may-still;
               waits = p .waits;
               within = rw same-config (omega (arith, q .remain, q .within));
             } in

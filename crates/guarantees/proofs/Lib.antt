@@ -16,4 +16,5 @@ pub mod ByCalls
 pub mod ExampleLed
 pub mod Again
 pub mod Later
+pub mod Profiles
 pub mod All

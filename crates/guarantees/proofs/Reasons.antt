@@ -20,7 +20,7 @@ use Rattle.model.specs.declared.Decoded.{Decoded}
 use Rattle.model.specs.declared.Decoded.the-variants.{Known, Unknown}
 use Rattle.model.specs.declared.Refusal.{Refusal}
 use Rattle.model.specs.declared.Refusal.the-variants.{Unsound, RowTooShort, InvalidAccess, Identification, NotInWindow}
-use Rattle.model.specs.declared.Refusal.the-variants.{LpiOutOfRange, DeviceUnmapped, EventBeyondBits, CollectionUnmapped, PairUnmapped, ProcessorUnlisted, ResourceNotFound, TableFull}
+use Rattle.model.specs.declared.Refusal.the-variants.{LpiOutOfRange, DeviceUnmapped, EventBeyondBits, CollectionUnmapped, PairUnmapped, ProcessorUnlisted, DeviceTooLarge, ResourceNotFound, TableFull}
 use Rattle.model.specs.declared.Verdict.{Verdict}
 use Rattle.model.specs.declared.Verdict.the-variants.{Accepted, Refused}
 use Rattle.model.specs.Choose.{_or_then_, ifFound}
@@ -28,7 +28,7 @@ use Rattle.model.specs.Arm.{isIdentification}
 use Rattle.model.specs.Keys.{eventAsLpi}
 use Rattle.model.specs.Config.{listed, soundUnit}
 use Rattle.model.specs.Decode.{opcodeOf, decode}
-use Rattle.model.specs.Step.{lpiInRange, deviceMapped, eventFits, collectionMapped, pairMapped, pairTranslates, roomForDevice, roomForCollection, roomForPair, checkMapping, check}
+use Rattle.model.specs.Step.{lpiInRange, deviceMapped, eventFits, collectionMapped, pairMapped, pairTranslates, roomForDevice, roomForCollection, roomForPair, checkMapping, checkIn01, namesTooLarge, check}
 use Rattle.model.specs.Queue.{Window, commandAt, commandAddress, Turn, passes, stays, judged, turnOn, turn}
 use Rattle.model.specs.Register.{registerAt, takesWidth}
 use Rattle.model.specs.Access.{inFrame, checkAccess, checkRead, checkWrite}
@@ -60,24 +60,27 @@ module _ (u : ItsState) where
       (check-only Commands (collectionMapped u c) CollectionUnmapped _ refl
       (check-only Commands (roomForPair u d e) TableFull _ refl tt))))
 
-  command-only : (x : Command) → Only Commands (check u x)
-  command-only (Mapd d bits true) = check-only Commands (roomForDevice u d) TableFull _ refl tt
-  command-only (Mapd d bits false) = tt
-  command-only (Mapc c p true) =
+  in-01-only : (x : Command) → Only Commands (checkIn01 u x)
+  in-01-only (Mapd d bits true) = check-only Commands (roomForDevice u d) TableFull _ refl tt
+  in-01-only (Mapd d bits false) = tt
+  in-01-only (Mapc c p true) =
       check-only Commands (listed (u .config) p) ProcessorUnlisted _ refl
       (check-only Commands (roomForCollection u c) TableFull _ refl tt)
-  command-only (Mapc c p false) = tt
-  command-only (Mapti d e l c) = mapping-only d e l c
-  command-only (Mapi d e c) = mapping-only d e (eventAsLpi e) c
-  command-only (Movi d e c) =
+  in-01-only (Mapc c p false) = tt
+  in-01-only (Mapti d e l c) = mapping-only d e l c
+  in-01-only (Mapi d e c) = mapping-only d e (eventAsLpi e) c
+  in-01-only (Movi d e c) =
       check-only Commands (collectionMapped u c) CollectionUnmapped _ refl
       (check-only Commands (pairMapped u d e) PairUnmapped _ refl tt)
-  command-only (Int d e) = check-only Commands (pairTranslates u d e) ResourceNotFound _ refl tt
-  command-only (Clear d e) = check-only Commands (pairTranslates u d e) ResourceNotFound _ refl tt
-  command-only (Discard d e) = check-only Commands (pairMapped u d e) PairUnmapped _ refl tt
-  command-only (Inv d e) = check-only Commands (pairMapped u d e) PairUnmapped _ refl tt
-  command-only (Invall c) = check-only Commands (collectionMapped u c) CollectionUnmapped _ refl tt
-  command-only Sync = tt
+  in-01-only (Int d e) = check-only Commands (pairTranslates u d e) ResourceNotFound _ refl tt
+  in-01-only (Clear d e) = check-only Commands (pairTranslates u d e) ResourceNotFound _ refl tt
+  in-01-only (Discard d e) = check-only Commands (pairMapped u d e) PairUnmapped _ refl tt
+  in-01-only (Inv d e) = check-only Commands (pairMapped u d e) PairUnmapped _ refl tt
+  in-01-only (Invall c) = check-only Commands (collectionMapped u c) CollectionUnmapped _ refl tt
+  in-01-only Sync = tt
+
+  command-only : (x : Command) → Only Commands (check u x)
+  command-only x = check-only Commands (not (namesTooLarge (u .config) x)) DeviceTooLarge (checkIn01 u x) refl (in-01-only x)
 
   -- one that stays, with the opcode told
   abbrev Stays : ℕ → Turn → Type 0

@@ -14,7 +14,7 @@ use Rattle.model.specs.declared.Refusal.{Refusal}
 use Rattle.model.specs.declared.Refusal.the-variants.{BaseZero, WriterRefused, BudgetExceeded, LineDoesNotFit}
 use Rattle.model.specs.declared.WriteAnswer.the-variants.{Taken, NotTaken}
 use Rattle.model.specs.declared.Written.{Written}
-use Rattle.model.specs.Queue.{Window, waiting}
+use Rattle.model.specs.Queue.{Window, waiting, mayRun}
 use Rattle.model.specs.Register.{registerAt}
 use Rattle.model.specs.Entry.{Outcome, stores}
 use Rattle.model.proofs.Cases.{never}
@@ -26,19 +26,19 @@ use Rattle.guarantees.proofs.Reasons.{Only, Entries, write-only}
 use Rattle.guarantees.proofs.Stopped.{stop-kind, stops, none-left}
 
 module _ (w : Window) (row : List ItsAction) (u : ItsState) (offset width value : ℕ) where
-  too-many : {s : RegisterWrite} {o : Outcome} → Way w row u offset width value s o → s .runs ≡ true → s .registers .enabled ≡ true →
+  too-many : {s : RegisterWrite} {o : Outcome} → Way w row u offset width value s o → s .runs ≡ true → mayRun (u .config) (s .registers) ≡ true →
       u .config .«command_budget» < waiting (s .registers) → o .written .answer ≡ NotTaken BudgetExceeded 0 (s .registers .creadr) 0 0
   too-many (checked why c) runs on more = never true refl (sym runs)
   too-many (no-base sound) runs on more = never true refl (sym runs)
   too-many (no-writer sound at) runs on more = never true refl (sym runs)
   too-many (quiet s g) runs on more = never true refl (sym runs)
   too-many (based s c k z) runs on more = never true refl (sym runs)
-  too-many (off s g out) runs on more = never (s .enabled) on out
+  too-many (off s g out) runs on more = never (mayRun (u .config) s) on out
   too-many (over s g _ _) runs on more = refl
   too-many (ran s g _ within) runs on more = absurd (omega (arith, within, more))
 
   only-then : {s : RegisterWrite} {o : Outcome} → Way w row u offset width value s o → IfRefused (o .written) BudgetExceeded (λ opcode at done actions.
-      (s .runs ≡ true) × (s .registers .enabled ≡ true) × (u .config .«command_budget» < waiting (s .registers)))
+      (s .runs ≡ true) × (mayRun (u .config) (s .registers) ≡ true) × (u .config .«command_budget» < waiting (s .registers)))
   only-then (checked why c) opcode at done actions h =
       let same : why ≡ BudgetExceeded = cc in
       let place : at-budget ≡ at-entry = rw same at (subst (Only Entries) c (write-only u (length row) offset width)) in
@@ -129,13 +129,13 @@ module _ (w : Window) (row : List ItsAction) (u : ItsState) (offset width value 
   at-a-command (ran s g on within) why′ place opcode at done actions h = stops w row u offset width value s g on within why′ opcode at done actions h
 
   none-waits : {s : RegisterWrite} {o : Outcome} → Way w row u offset width value s o → (done actions : ℕ) → o .written .answer ≡ Taken done actions →
-      s .runs ≡ true → s .registers .enabled ≡ true → o .written .unit .registers .creadr ≡ s .registers .cwriter
+      s .runs ≡ true → mayRun (u .config) (s .registers) ≡ true → o .written .unit .registers .creadr ≡ s .registers .cwriter
   none-waits (checked why c) done actions h runs on = never true refl (sym runs)
   none-waits (no-base sound) done actions h runs on = never true refl (sym runs)
   none-waits (no-writer sound at) done actions h runs on = never true refl (sym runs)
   none-waits (quiet s g) done actions h runs on = never true refl (sym runs)
   none-waits (based s c k z) done actions h runs on = never true refl (sym runs)
-  none-waits (off s g out) done actions h runs on = never (s .enabled) on out
+  none-waits (off s g out) done actions h runs on = never (mayRun (u .config) s) on out
   none-waits (over s g _ _) done actions h runs on = never true refl (cc)
   none-waits (ran s g on within) done actions h runs _ = none-left w row u offset width value s g on within done actions h
 

@@ -12,7 +12,7 @@ use Rattle.model.specs.declared.Refusal.{Refusal}
 use Rattle.model.specs.declared.WriteAnswer.the-variants.{Taken, NotTaken}
 use Rattle.model.specs.Refusal.{writeNumbers}
 use Rattle.model.specs.With.{withRegisters}
-use Rattle.model.specs.Queue.{Window, waiting, Ran, run}
+use Rattle.model.specs.Queue.{Window, waiting, Ran, run, mayRun}
 use Rattle.model.specs.Writing.{going}
 use Rattle.model.specs.Entry.{answerOf, afterRun}
 use Rattle.model.specs.Passed.{ringOffset, commandsPassed}
@@ -29,7 +29,7 @@ use Rattle.guarantees.proofs.Counted.{as-many, no-more, fits}
 use Rattle.guarantees.proofs.Remaining.{waiting-after}
 
 module _ (w : Window) (row : List ItsAction) (u : ItsState) (offset width value : ℕ) (s : ItsRegisters) (g : Stored w row u offset width value s)
-    (on : s .enabled ≡ true) (within : waiting s ≤ u .config .«command_budget») where
+    (on : mayRun (u .config) s ≡ true) (within : waiting s ≤ u .config .«command_budget») where
   abbrev q : Ran
   q = run w (waiting s) (withRegisters u s)
 
@@ -51,7 +51,7 @@ module _ (w : Window) (row : List ItsAction) (u : ItsState) (offset width value 
         let remain : waiting (q .unit .registers) ≡ waiting s - q .done = rw (keeps .registers) (waiting-after s (g .ring) (q .done) (keeps .at-most)) in
         record {
           lets-run = refl;
-          enabled = on;
+          may = rw (keeps .config) on;
           waits = omega (arith, remain, keeps .fewer _ stop);
           fails = keeps .refused _ stop;
           offset = place;

@@ -18,7 +18,7 @@ use Rattle.model.specs.declared.Verdict.the-variants.{Accepted, Refused}
 use Rattle.model.specs.declared.TranslateAnswer.the-variants.{Delivered, NotDelivered}
 use Rattle.model.specs.declared.Configured.{Configured}
 use Rattle.model.specs.Choose.{if_then_else_, ifFound}
-use Rattle.model.specs.Config.{soundConfig, soundUnit, freshUnit, noUnit}
+use Rattle.model.specs.Config.{sizesIn01, soundConfig, soundUnit, freshUnit, noUnit}
 use Rattle.model.specs.Step.{deliveryIn}
 use Rattle.model.specs.Queue.{Window}
 use Rattle.model.specs.Access.{checkRead, checkWrite}
@@ -42,7 +42,7 @@ unsound-answers-1 u no-ring =
     }
 
 no-unit-unsound : soundUnit noUnit ≡ false
-unfolding soundConfig
+unfolding sizesIn01 soundConfig
 no-unit-unsound = refl
 
 pub no-unit-answers-1 : (u : ItsState) → NoUnit u → AnswersOne u

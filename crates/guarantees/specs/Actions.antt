@@ -16,6 +16,7 @@ use Rattle.model.specs.declared.Command.{Command}
 use Rattle.model.specs.declared.Command.the-variants.{Mapd, Mapc, Mapti, Mapi, Movi, Int, Clear, Discard, Inv, Invall, Sync}
 use Rattle.model.specs.declared.Written.{Written}
 use Rattle.model.specs.Refusal.{writeNumbers}
+use Rattle.model.specs.Profile.{Profile}
 use Rattle.model.specs.Queue.{Window}
 use Rattle.model.specs.Passed.{commandsPassed}
 use Rattle.model.specs.Promise.{SentTo}
@@ -60,31 +61,31 @@ intsAndClears (x ∷ g) = handsOver x + intsAndClears g
 abbrev pub anAction : GicVcpuId → LpiId → Bool → ItsAction
 anAction p l pending = record { target = p; lpi = l; pending = pending }
 
--- `ActionsOf h g handed`: h are the commands carried out before a write, g those that it passed, each time the last one first; handed are the actions
+-- `ActionsOf f h g handed`: f is the profile, h are the commands carried out before a write, g those that it passed, each time the last one first; handed are the actions
 -- of g, the first one first.
-pub data ActionsOf (h : List Command) : List Command → List ItsAction → Type 0 where
+pub data ActionsOf (f : Profile) (h : List Command) : List Command → List ItsAction → Type 0 where
   -- no command, no action
-  none-passed : ActionsOf h [] []
+  none-passed : ActionsOf f h [] []
   -- one more INT: its action comes last, pending, to where the commands before it send its pair
-  an-int : {g : List Command} {handed : List ItsAction} → ActionsOf h g handed → (d : ItsDeviceId) (e : EventId) (l : LpiId) (p : GicVcpuId) →
-      SentTo (g ++ h) d e l p → ActionsOf h (Int d e ∷ g) (handed ++ anAction p l true ∷ [])
+  an-int : {g : List Command} {handed : List ItsAction} → ActionsOf f h g handed → (d : ItsDeviceId) (e : EventId) (l : LpiId) (p : GicVcpuId) →
+      SentTo f (g ++ h) d e l p → ActionsOf f h (Int d e ∷ g) (handed ++ anAction p l true ∷ [])
   -- one more CLEAR: the same, not pending
-  a-clear : {g : List Command} {handed : List ItsAction} → ActionsOf h g handed → (d : ItsDeviceId) (e : EventId) (l : LpiId) (p : GicVcpuId) →
-      SentTo (g ++ h) d e l p → ActionsOf h (Clear d e ∷ g) (handed ++ anAction p l false ∷ [])
+  a-clear : {g : List Command} {handed : List ItsAction} → ActionsOf f h g handed → (d : ItsDeviceId) (e : EventId) (l : LpiId) (p : GicVcpuId) →
+      SentTo f (g ++ h) d e l p → ActionsOf f h (Clear d e ∷ g) (handed ++ anAction p l false ∷ [])
   -- another command adds none
-  another : {g : List Command} {handed : List ItsAction} → ActionsOf h g handed → (x : Command) → handsOver x ≡ 0 → ActionsOf h (x ∷ g) handed
+  another : {g : List Command} {handed : List ItsAction} → ActionsOf f h g handed → (x : Command) → handsOver x ≡ 0 → ActionsOf f h (x ∷ g) handed
 
--- What a write hands over, refused or not (02, A2). h are the commands carried out before it, u is the unit that it was made to, r what it answered, and
+-- What a write hands over, refused or not (02, A2). f is the unit's profile, h are the commands carried out before it, u is the unit that it was made to, r what it answered, and
 -- left the row afterwards.
-pub record ActionsGiven (h : List Command) (w : Window) (u : ItsState) (r : Written) (left : List ItsAction) : Type 0 where
+pub record ActionsGiven (f : Profile) (h : List Command) (w : Window) (u : ItsState) (r : Written) (left : List ItsAction) : Type 0 where
   -- the row's first records, as many as the answer says, are the actions of the INT and CLEAR that it passed
-  pub handed-over : ActionsOf h (passedBy w u r) (take (actionsIn r) left)
+  pub handed-over : ActionsOf f h (passedBy w u r) (take (actionsIn r) left)
   -- and the answer says k, the number of those INT and CLEAR
   pub as-many : actionsIn r ≡ intsAndClears (passedBy w u r)
 
 -- The same of a call of its_write, refused or not, which leaves the numbers after in the row and tells the numbers told.
-pub record CallActionsGiven (h : List Command) (w : Window) (u : ItsState) (after : List ℕ) (told : List ℕ) : Type 0 where
+pub record CallActionsGiven (f : Profile) (h : List Command) (w : Window) (u : ItsState) (after : List ℕ) (told : List ℕ) : Type 0 where
   -- the row's first numbers, as many as the fifth of the numbers told says, are the actions of the INT and CLEAR that it passed
-  pub handed-over : ActionsOf h (passedTold w u told) (map actionIn (take (getD told 4 0) after))
+  pub handed-over : ActionsOf f h (passedTold w u told) (map actionIn (take (getD told 4 0) after))
   -- and that number is k, the number of those INT and CLEAR
   pub as-many : getD told 4 0 ≡ intsAndClears (passedTold w u told)

@@ -10,6 +10,7 @@ use Rattle.model.specs.declared.ItsState.{ItsState}
 use Rattle.model.specs.declared.LpiId.{LpiId}
 use Rattle.model.specs.declared.CollectionId.{CollectionId}
 use Rattle.model.specs.declared.Command.{Command}
+use Rattle.model.specs.Profile.{profileOf}
 use Rattle.model.specs.Queue.{Window}
 use Rattle.model.specs.Paragraph.{InForce}
 use Rattle.model.specs.Promise.{SentTo}
@@ -21,8 +22,7 @@ use Rattle.guarantees.specs.MappingsInForce.{MappingsInForce}
 -- carried out are h, the last one first.
 pub data LedByCalls (k : ItsConfig) : ItsState → List Command → Type 0 where
   -- a configuration that was not refused, and no command yet
-  its-configure : (limit budget frame : ℕ) (ps : List ℕ) → k ≡ configGiven limit budget frame ps → (u : ItsState) (r : ℕ) (told : List ℕ) →
-      CallConfigures limit budget frame ps u r told → r ≡ 0 → LedByCalls k u []
+  its-configure : (ss ps : List ℕ) → k ≡ configGiven ss ps → (u : ItsState) (r : ℕ) (told : List ℕ) → CallConfigures ss ps u r told → r ≡ 0 → LedByCalls k u []
   -- a read, and a translation: the numbers are lent to be read only
   its-read : {u : ItsState} {h : List Command} → LedByCalls k u h → (offset width r : ℕ) (told : List ℕ) → CallReads u offset width r told → LedByCalls k u h
   its-translate : {u : ItsState} {h : List Command} → LedByCalls k u h → (device event r : ℕ) (told : List ℕ) → CallTranslates u device event r told →
@@ -46,10 +46,10 @@ pub record CallsInForce (k : ItsConfig) (u : ItsState) (h : List Command) : Type
   pub demand : MappingsInForce k u h
   -- the numbers told are 0, an LPI and a processor exactly where the commands of the history send the pair there
   pub translates : (device event r : ℕ) (told : List ℕ) → CallTranslates u device event r told → (lpi processor : ℕ) →
-      (told ≡ 0 ∷ lpi ∷ processor ∷ 0 ∷ 0 ∷ []) ↔ SentTo h (record { 0 = device }) (record { 0 = event }) (record { 0 = lpi }) (record { 0 = processor })
+      (told ≡ 0 ∷ lpi ∷ processor ∷ 0 ∷ 0 ∷ []) ↔ SentTo (profileOf k) h (record { 0 = device }) (record { 0 = event }) (record { 0 = lpi }) (record { 0 = processor })
   -- they are 8, 0, 0 exactly where the pair is not in force
   pub nowhere : (device event r : ℕ) (told : List ℕ) → CallTranslates u device event r told →
-      (told ≡ 8 ∷ 0 ∷ 0 ∷ 0 ∷ 0 ∷ []) ↔ ((l : LpiId) (c : CollectionId) → InForce h (record { 0 = device }) (record { 0 = event }) l c → ⊥)
+      (told ≡ 8 ∷ 0 ∷ 0 ∷ 0 ∷ 0 ∷ []) ↔ ((l : LpiId) (c : CollectionId) → InForce (profileOf k) h (record { 0 = device }) (record { 0 = event }) l c → ⊥)
   -- no call returns 1
   pub reads : (offset width r : ℕ) (told : List ℕ) → CallReads u offset width r told → r ≡ 1 → ⊥
   pub messages : (device event r : ℕ) (told : List ℕ) → CallTranslates u device event r told → r ≡ 1 → ⊥

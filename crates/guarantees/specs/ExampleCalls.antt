@@ -88,7 +88,7 @@ pub record ExampleByCalls : Type 0 where
   pub ended : ItsState
   pub stopped : ItsState
   -- CF 0
-  pub cf : CallConfigures 65535 64 65536 (0 ∷ 1 ∷ []) fresh 0 (0 ∷ 0 ∷ 0 ∷ 0 ∷ 0 ∷ [])
+  pub cf : CallConfigures (65535 ∷ 64 ∷ 65536 ∷ []) (0 ∷ 1 ∷ []) fresh 0 (0 ∷ 0 ∷ 0 ∷ 0 ∷ 0 ∷ [])
   -- WR 0 0 0 0 0
   pub wr-cbaser : CallWrites window numberRow fresh GITS-CBASER 8 0x8000000040000000 based numberRow 0 (0 ∷ 0 ∷ 0 ∷ 0 ∷ 0 ∷ [])
   -- RD 0 1073741824

@@ -78,7 +78,7 @@ pub record OfEveryEntry (P : (A : Type 0) → (A → Type 0) → Type 0) : Type 
   -- `its_trace`, the C call, returns a number and leaves an output
   pub «its_trace» : (trace out : List ℕ) → P TraceOutcome (TracedBoth trace out)
   -- `its_configure` returns a number, tells five and leaves a unit
-  pub «its_configure» : (limit budget frame : ℕ) (ps : List ℕ) → P CallAnswerUnit (λ o. CallConfigures limit budget frame ps (o .unit) (o .number) (o .told))
+  pub «its_configure» : (ss ps : List ℕ) → P CallAnswerUnit (λ o. CallConfigures ss ps (o .unit) (o .number) (o .told))
   -- `its_read` returns a number and tells five; the unit is lent to be read only
   pub «its_read» : (u : ItsState) (offset width : ℕ) → P CallAnswer (λ o. CallReads u offset width (o .number) (o .told))
   -- `its_write` returns a number, tells five, and leaves a unit and a row; lent are the numbers that are lent to it

@@ -17,7 +17,7 @@ use Rattle.model.specs.Arm.{command-size}
 use Rattle.model.specs.With.{withRegisters, withReader}
 use Rattle.model.specs.Config.{queueSize, soundUnit}
 use Rattle.model.specs.Decode.{opcodeOf}
-use Rattle.model.specs.Queue.{Window, commandAt, commandAddress, distance, waiting}
+use Rattle.model.specs.Queue.{Window, commandAt, commandAddress, distance, waiting, mayRun}
 use Rattle.model.specs.Passed.{ringOffset}
 use Rattle.guarantees.specs.Actions.{doneIn, actionsIn, passedBy, intsAndClears}
 use Rattle.guarantees.specs.Refusals.{at-command, givenAt, IfRefused}
@@ -34,7 +34,7 @@ pub record RingFollows (u : ItsState) (s : RegisterWrite) (r : Written) : Type 0
   pub only : (n : ℕ) → n ≤ waiting (s .registers) → r .unit .registers .creadr ≡ ringOffset (s .registers) n → n ≡ doneIn r
   -- a stored CBASER write resets CREADR, and has done 0 (not-run, what is stored)
   pub new-base : s .rebased ≡ true → (doneIn r ≡ 0) × (r .unit .registers .creadr ≡ 0)
-  -- no more was done than the budget allows (at-most, not-run, disabled, too-many)
+  -- no more was done than the budget allows (at-most, not-run, may-not, too-many)
   pub in-budget : doneIn r ≤ u .config .«command_budget»
 
 -- THE COMMANDS, of every unit.
@@ -57,9 +57,9 @@ pub record CommandRefused (w : Window) (u : ItsState) (s : RegisterWrite) (r : W
   -- it is one of those that waited, which are within the budget (waits, too-many)
   pub waited : done < waiting (s .registers)
   pub within : waiting (s .registers) ≤ u .config .«command_budget»
-  -- it waits still, with those behind it, in an enabled unit (registers, at-most, enabled)
+  -- it waits still, with those behind it, in a unit whose queue may run (registers, at-most, may)
   pub remain : waiting (r .unit .registers) ≡ waiting (s .registers) - done
-  pub still-enabled : r .unit .registers .enabled ≡ true
+  pub may-still : mayRun (r .unit .config) (r .unit .registers) ≡ true
   -- opcode is the command's, and 0 where it was not read (fails)
   pub opcode-read : opcode ≡ ifFound (commandAt w (commandAddress (r .unit .registers) (r .unit .registers .creadr))) opcodeOf 0
 

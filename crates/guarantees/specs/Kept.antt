@@ -17,21 +17,21 @@ use Rattle.model.specs.declared.WriteAnswer.the-variants.{Taken, NotTaken}
 use Rattle.model.specs.declared.Written.{Written}
 use Rattle.model.specs.With.{withRegisters}
 use Rattle.model.specs.Config.{soundUnit}
-use Rattle.model.specs.Queue.{Window, waiting, stays, turn}
+use Rattle.model.specs.Queue.{Window, waiting, stays, turn, mayRun}
 use Rattle.model.specs.Register.{registerAt}
 use Rattle.model.specs.Passed.{CarriedOut}
 use Rattle.guarantees.specs.Actions.{doneIn, actionsIn, passedBy}
 use Rattle.guarantees.specs.Refusals.{at-entry, at-command, givenAt, writerOf, IfRefused}
 
 -- THE RING, of a sound unit, also one that was built by hand. That done is CREADR's advance follows (Follows.RingFollows).
-pub record RingKept (s : RegisterWrite) (r : Written) : Type 0 where
+pub record RingKept (u : ItsState) (s : RegisterWrite) (r : Written) : Type 0 where
   -- unit and ring stay sound
   pub sound : soundUnit (r .unit) ≡ true
   -- no more was done than waited
   pub at-most : doneIn r ≤ waiting (s .registers)
-  -- a write that lets no queue run does none, nor does a disabled unit
+  -- a write that lets no queue run does none, nor does one after which the queue may not run: the unit is disabled, or in strict CBASER's bit 63 is 0
   pub not-run : s .runs ≡ false → doneIn r ≡ 0
-  pub disabled : s .registers .enabled ≡ false → doneIn r ≡ 0
+  pub may-not : mayRun (u .config) (s .registers) ≡ false → doneIn r ≡ 0
 
 -- THE COMMANDS, of every unit, and of a write that is refused too.
 pub record CommandsKept (w : Window) (row : List ItsAction) (u : ItsState) (s : RegisterWrite) (r : Written) (left : List ItsAction) : Type 0 where
@@ -50,9 +50,9 @@ pub record CommandsKept (w : Window) (row : List ItsAction) (u : ItsState) (s : 
 
 -- The command on which CREADR stands was refused, the first one or a later one: the reason why, the opcode and the offset answered are its own.
 pub record StopsAt (w : Window) (s : RegisterWrite) (r : Written) (why : Refusal) (opcode at : ℕ) : Type 0 where
-  -- the queue was let run, in an enabled unit
+  -- the queue was let run, and may run
   pub lets-run : s .runs ≡ true
-  pub enabled : s .registers .enabled ≡ true
+  pub may : mayRun (r .unit .config) (s .registers) ≡ true
   -- the command waits still
   pub waits : 0 < waiting (r .unit .registers)
   -- the unit that is left refuses it, for this reason and with this opcode
@@ -69,15 +69,15 @@ pub record RefusalKept (w : Window) (u : ItsState) (offset width value : ℕ) (s
       (registerAt offset ≡ Cwriter) × (r ≡ record { unit = u; answer = NotTaken WriterRefused 0 (writerOf u offset width value) 0 0 }))
   -- 5 is tested once, before any command: where more wait than the budget, that is the answer; the offset is CREADR, nothing is done and nothing
   -- handed over
-  pub too-many : s .runs ≡ true → s .registers .enabled ≡ true → u .config .«command_budget» < waiting (s .registers) →
+  pub too-many : s .runs ≡ true → mayRun (u .config) (s .registers) ≡ true → u .config .«command_budget» < waiting (s .registers) →
       r .answer ≡ NotTaken BudgetExceeded 0 (s .registers .creadr) 0 0
   -- and 5 is answered only then
   pub only-then : IfRefused r BudgetExceeded (λ opcode at done actions.
-      (s .runs ≡ true) × (s .registers .enabled ≡ true) × (u .config .«command_budget» < waiting (s .registers)))
-  -- 20 to 26, 6, 8 and 9: of a command
+      (s .runs ≡ true) × (mayRun (u .config) (s .registers) ≡ true) × (u .config .«command_budget» < waiting (s .registers)))
+  -- 20 to 27, 6, 8 and 9: of a command
   pub at-a-command : (why : Refusal) → givenAt why ≡ at-command → IfRefused r why (λ opcode at done actions. StopsAt w s r why opcode at)
   -- 11 is the C call's: no write answers it
   pub never-11 : IfRefused r LineDoesNotFit (λ opcode at done actions. ⊥)
-  -- a write that is taken and lets an enabled unit run leaves no command waiting
-  pub taken : (done actions : ℕ) → r .answer ≡ Taken done actions → s .runs ≡ true → s .registers .enabled ≡ true →
+  -- a write that is taken and lets a queue run that may leaves no command waiting
+  pub taken : (done actions : ℕ) → r .answer ≡ Taken done actions → s .runs ≡ true → mayRun (u .config) (s .registers) ≡ true →
       r .unit .registers .creadr ≡ s .registers .cwriter

@@ -7,5 +7,6 @@ pub mod Follows
 pub mod MappingsInForce
 pub mod CallsInForce
 pub mod Retries
+pub mod Profiles
 pub mod ExampleCalls
 pub mod Theorems

@@ -1,4 +1,4 @@
--- DEMAND 3 over the contracts of the public entries: from a unit that was configured, whatever accesses follow, a device and event translate exactly
+-- DEMAND 3 over the contracts of the public entries, of a unit of either profile: from a unit that was configured, whatever accesses follow, a device and event translate exactly
 -- when the commands carried out so far put that pair in force, and to the LPI and processor that those commands give. Nothing here speaks of a
 -- definition of an access: each access is any answer that meets the entry's contract (crates/its/specs/Contracts.antt).
 -- Assumes nothing.
@@ -27,10 +27,11 @@ use Rattle.model.specs.declared.Written.{Written}
 use Rattle.model.specs.Refusal.{translateNumbers}
 use Rattle.model.specs.Keys.{delivery}
 use Rattle.model.specs.Config.{soundUnit}
+use Rattle.model.specs.Profile.{strict, profileOf}
 use Rattle.model.specs.Queue.{Window}
 use Rattle.model.specs.Entry.{stores}
 use Rattle.model.specs.Paragraph.{InForce}
-use Rattle.model.specs.Promise.{SentTo, Backed}
+use Rattle.model.specs.Promise.{SentTo, Backed, BelowCapacity}
 use Rattle.its.specs.Contracts.{Configures, Reads, Writes, Translates}
 use Rattle.guarantees.specs.Actions.{passedBy}
 use Rattle.guarantees.specs.Refusals.{NeverOne}
@@ -64,17 +65,19 @@ pub record MappingsInForce (k : ItsConfig) (u : ItsState) (h : List Command) : T
   pub sound : soundUnit u ≡ true
   -- a pair translates exactly where the commands of the history send it, and to the LPI and processor that they give
   pub translates : (d : ItsDeviceId) (e : EventId) (r : TranslateAnswer) → Translates u d e r →
-      (l : LpiId) (p : GicVcpuId) → (r ≡ Delivered (delivery l p)) ↔ SentTo h d e l p
+      (l : LpiId) (p : GicVcpuId) → (r ≡ Delivered (delivery l p)) ↔ SentTo (profileOf k) h d e l p
   -- it is refused with 8 exactly where the pair is not in force
   pub nowhere : (d : ItsDeviceId) (e : EventId) (r : TranslateAnswer) → Translates u d e r →
-      (r ≡ NotDelivered ResourceNotFound) ↔ ((l : LpiId) (c : CollectionId) → InForce h d e l c → ⊥)
+      (r ≡ NotDelivered ResourceNotFound) ↔ ((l : LpiId) (c : CollectionId) → InForce (profileOf k) h d e l c → ⊥)
   -- a translation has no other refusal
   pub only-8 : (d : ItsDeviceId) (e : EventId) (r : TranslateAnswer) → Translates u d e r → (why : Refusal) → r ≡ NotDelivered why → why ≡ ResourceNotFound
   -- and the numbers of a refused one are 8, 0, 0
   pub numbers : (d : ItsDeviceId) (e : EventId) (r : TranslateAnswer) → Translates u d e r →
       (why : Refusal) → r ≡ NotDelivered why → translateNumbers r ≡ record { refusal = 8; lpi = 0; processor = 0 }
   -- of each pair in force the LPI is in range, device and collection are mapped, and the processor is listed
-  pub backed : (d : ItsDeviceId) (e : EventId) (l : LpiId) (c : CollectionId) → InForce h d e l c → Backed k h d l c
+  pub backed : (d : ItsDeviceId) (e : EventId) (l : LpiId) (c : CollectionId) → InForce (profileOf k) h d e l c → Backed k h d l c
+  -- in strict besides: each pair in force lies below its device's present capacity (02, A3)
+  pub below-capacity : profileOf k ≡ strict → (d : ItsDeviceId) (e : EventId) (l : LpiId) (c : CollectionId) → InForce strict h d e l c → BelowCapacity h d e
   -- 1 is never answered: to no read, no translation and no write (Refusals)
   pub never-1 : NeverOne u
   -- every command that a write passes lay whole in the window, is of one of the kinds and was accepted by the unit that met it (Kept)

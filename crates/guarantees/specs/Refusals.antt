@@ -12,7 +12,7 @@ use Rattle.model.specs.declared.ItsAction.{ItsAction}
 use Rattle.model.specs.declared.Register.the-variants.{Cwriter}
 use Rattle.model.specs.declared.Refusal.{Refusal}
 use Rattle.model.specs.declared.Refusal.the-variants.{Unsound, RowTooShort, InvalidAccess, Identification, BaseZero, WriterRefused, BudgetExceeded, NotInWindow}
-use Rattle.model.specs.declared.Refusal.the-variants.{OpcodeUnknown, LpiOutOfRange, DeviceUnmapped, EventBeyondBits, CollectionUnmapped, PairUnmapped, ProcessorUnlisted, ResourceNotFound, TableFull, LineDoesNotFit}
+use Rattle.model.specs.declared.Refusal.the-variants.{OpcodeUnknown, LpiOutOfRange, DeviceUnmapped, EventBeyondBits, CollectionUnmapped, PairUnmapped, ProcessorUnlisted, DeviceTooLarge, ResourceNotFound, TableFull, LineDoesNotFit}
 use Rattle.model.specs.declared.ReadAnswer.{ReadAnswer}
 use Rattle.model.specs.declared.ReadAnswer.the-variants.{NoValue}
 use Rattle.model.specs.declared.WriteAnswer.the-variants.{NotTaken}
@@ -51,7 +51,7 @@ givenAt Identification = at-entry
 givenAt BaseZero = at-entry
 -- 7
 givenAt WriterRefused = at-cwriter
--- 20 to 26 (02, A1), in the place of 01's 7 of a command
+-- 20 to 27 (02, A1 and A3), in the place of 01's 7 of a command
 givenAt OpcodeUnknown = at-command
 givenAt LpiOutOfRange = at-command
 givenAt DeviceUnmapped = at-command
@@ -59,6 +59,7 @@ givenAt EventBeyondBits = at-command
 givenAt CollectionUnmapped = at-command
 givenAt PairUnmapped = at-command
 givenAt ProcessorUnlisted = at-command
+givenAt DeviceTooLarge = at-command
 -- 5
 givenAt BudgetExceeded = at-budget
 -- 6

@@ -14,7 +14,7 @@ use Rattle.model.specs.declared.WriteAnswer.the-variants.{NotTaken}
 use Rattle.model.specs.declared.Written.{Written}
 use Rattle.model.specs.Arm.{GITS-CTLR}
 use Rattle.model.specs.With.{withRegisters}
-use Rattle.model.specs.Queue.{Window, waiting, passes, stays, turn, carryOut}
+use Rattle.model.specs.Queue.{Window, waiting, passes, stays, turn, carryOut, mayRun}
 use Rattle.model.specs.Writing.{enables}
 use Rattle.model.specs.Entry.{stores}
 use Rattle.model.specs.Passed.{CarriedOut}
@@ -25,8 +25,8 @@ use Rattle.guarantees.specs.Actions.{passedBy}
 pub record Tries (u : ItsState) (s : RegisterWrite) : Type 0 where
   -- a CTLR write or an accepted CWRITER write, not refused at the entry
   pub lets-run : s .runs ≡ true
-  -- the unit is enabled then
-  pub enabled : s .registers .enabled ≡ true
+  -- the queue may run then: the unit is enabled, and in strict CBASER's bit 63 is set
+  pub may : mayRun (u .config) (s .registers) ≡ true
   -- commands wait
   pub waits : 0 < waiting (s .registers)
   -- no more than the budget

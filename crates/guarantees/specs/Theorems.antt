@@ -23,9 +23,12 @@ use Rattle.model.specs.declared.Configured.{Configured}
 use Rattle.model.specs.declared.Written.{Written}
 use Rattle.model.specs.Refusal.{numberOf, reasons, numberIn01, folded}
 use Rattle.model.specs.Config.{soundUnit}
+use Rattle.model.specs.Profile.{Profile, profileOf}
 use Rattle.model.specs.Step.{check}
 use Rattle.model.specs.Queue.{Window, stays, turn}
+use Rattle.model.specs.With.{withProfile}
 use Rattle.model.specs.Entry.{stores}
+use Rattle.model.specs.In01.{configureIn01}
 use Rattle.model.specs.Trace.{lentRow}
 use Rattle.its.specs.declared.WrittenRow.{WrittenRow}
 use Rattle.its.specs.Contracts.{NoUnit, Configures, Reads, Writes, WritesLent, Translates}
@@ -39,6 +42,7 @@ use Rattle.guarantees.specs.Follows.{RingFollows, CommandsFollow, Refusa
 use Rattle.guarantees.specs.MappingsInForce.{Led, OfWritesTo, MappingsInForce}
 use Rattle.guarantees.specs.CallsInForce.{LedByCalls, OfCallsTo, CallsInForce}
 use Rattle.guarantees.specs.Retries.{Tries, TriesAgain, TriedLater}
+use Rattle.guarantees.specs.Profiles.{As01, LedAlike, AnswerAlike}
 use Rattle.guarantees.specs.ExampleCalls.{ExampleByEntries, ExampleByCalls}
 
 -- of every call of `write_its`, with any window, row, unit, offset, width and value, and of what it answers and leaves in the row
@@ -57,12 +61,22 @@ pub record Theorems : Type 0 where
   -- NEITHER IS EMPTY: 01's example is such a run (ExampleCalls)
   pub example-by-entries : ExampleByEntries
   pub example-by-calls : ExampleByCalls
+  -- A BASE UNIT IS DOCUMENT 01'S (Profiles; 02, A3): every unit of that profile, also one that was built by hand
+  pub base-as-01 : (u : ItsState) → u .config .profile ≡ 0 → As01 u
+  -- so over whole runs every unit to which calls led from a base configuration
+  pub base-led : {k : ItsConfig} {u : ItsState} {h : List Command} → k .profile ≡ 0 → Led k u h → As01 u
+  -- and such a configuration is accepted or refused, and gives a unit, as in 01
+  pub base-configured : (k : ItsConfig) → k .profile ≡ 0 → (c : Configured) → Configures k c → c ≡ configureIn01 k
+  -- WHERE THE PROFILES AGREE BOTH ANSWER ALIKE (Profiles): over whole runs of accesses on which they agree
+  pub profiles-alike : {k : ItsConfig} {u v : ItsState} → LedAlike k u v → AnswerAlike u v
+  -- and both accept the same configurations
+  pub verdicts-alike : (k : ItsConfig) (c c′ : Configured) → Configures (withProfile k 0) c → Configures (withProfile k 1) c′ → c′ .verdict ≡ c .verdict
   -- EACH ACTION HANDED OVER IS WHAT THE HISTORY GIVES (Actions): of every write, refused or not, to a unit to which calls led
-  pub actions-given : {k : ItsConfig} {u : ItsState} {h : List Command} → Led k u h → OfWritesTo u (λ w row offset width value r left. ActionsGiven h w u r left)
+  pub actions-given : {k : ItsConfig} {u : ItsState} {h : List Command} → Led k u h → OfWritesTo u (λ w row offset width value r left. ActionsGiven (profileOf k) h w u r left)
   -- and of every call of its_write
-  pub call-actions-given : {k : ItsConfig} {u : ItsState} {h : List Command} → LedByCalls k u h → OfCallsTo u (λ w u after r told. CallActionsGiven h w u after told)
+  pub call-actions-given : {k : ItsConfig} {u : ItsState} {h : List Command} → LedByCalls k u h → OfCallsTo u (λ w u after r told. CallActionsGiven (profileOf k) h w u after told)
   -- the history gives one list of actions
-  pub actions-firm : (h g : List Command) → Firm (List ItsAction) (ActionsOf h g)
+  pub actions-firm : (f : Profile) (h g : List Command) → Firm (List ItsAction) (ActionsOf f h g)
   -- FIRMNESS (Firm): of every public entry, at all inputs, an answer meets the contract
   pub answered-entries : OfEveryEntry Answered
   -- and any second one is equal to it
@@ -75,7 +89,7 @@ pub record Theorems : Type 0 where
       CallWrites w row u offset width value left after r told →
       (a : WriteAnswer) × (Writes w (map actionIn row) u offset width value (record { unit = left; answer = a }) (map actionIn after) × Tells (numbersOfWrite a) r told)
   -- WHAT A WRITE KEEPS (Kept). The ring, on every sound unit, also one that was built by hand
-  pub ring-kept : OfEveryWrite (λ w row u offset width value r left. soundUnit u ≡ true → RingKept (stores row u offset width value) r)
+  pub ring-kept : OfEveryWrite (λ w row u offset width value r left. soundUnit u ≡ true → RingKept u (stores row u offset width value) r)
   -- the commands, on every unit: those carried out are those that the window shows, the row holds their actions, and the answer says how many
   pub commands-kept : OfEveryWrite (λ w row u offset width value r left. CommandsKept w row u (stores row u offset width value) r left)
   -- refusal and answer, on every unit
@@ -86,16 +100,16 @@ pub record Theorems : Type 0 where
   pub commands-follow : OfEveryWrite (λ w row u offset width value r left. CommandsFollow w row u (stores row u offset width value) r left)
   -- of a refusal, on every unit
   pub refusal-follows : OfEveryWrite (λ w row u offset width value r left. RefusalFollows w row u (stores row u offset width value) r left)
-  -- WHAT A NUMBER TELLS (02, A1). 20 to 26 are a command's seven reasons, in A1's order, and 7 is CWRITER's
-  pub numbered : (map numberOf reasons ≡ 20 ∷ 21 ∷ 22 ∷ 23 ∷ 24 ∷ 25 ∷ 26 ∷ []) × (numberOf WriterRefused ≡ 7)
+  -- WHAT A NUMBER TELLS (02, A1 and A3). 20 to 27 are a command's reasons, in A1's order and then A3's, and 7 is CWRITER's
+  pub numbered : (map numberOf reasons ≡ 20 ∷ 21 ∷ 22 ∷ 23 ∷ 24 ∷ 25 ∷ 26 ∷ 27 ∷ []) × (numberOf WriterRefused ≡ 7)
   -- and no other refusal's: two with one number are one
   pub one-reason : (a b : Refusal) → numberOf a ≡ numberOf b → a ≡ b
   -- 0 is none: a call that returns 0 was not refused
   pub not-zero : (why : Refusal) → numberOf why ≡ 0 → ⊥
   -- folded, each refusal has 01's number
   pub folds : (why : Refusal) → folded (numberOf why) ≡ numberIn01 why
-  -- and nothing but 20 to 26 is folded
-  pub folded-only : (n : ℕ) → (folded n ≡ n) ⊎ ((20 ≤ n) × ((n ≤ 26) × (folded n ≡ 7)))
+  -- and nothing but 20 to 27 is folded
+  pub folded-only : (n : ℕ) → (folded n ≡ n) ⊎ ((20 ≤ n) × ((n ≤ 27) × (folded n ≡ 7)))
   -- a unit refuses a command for a reason exactly if what the reason says holds (Reasons)
   pub refused-because : (u : ItsState) (x : Command) (why : Refusal) → (check u x ≡ Refused why) ↔ Because u x why
   -- the command on which CREADR stands is refused for a reason, and with an opcode told, exactly if these are its own

@@ -1,16 +1,16 @@
--- The processors that a host gives: one more, all, and the first sixteen of more. A count above sixteen is refused like any other, so the
--- configuration made is accepted exactly if the one given is.
+-- What a host gives. The processors: one more, all, and the first sixteen of more. A count above sixteen is refused like any other, and so is a setting
+-- that is not known: the configuration made is accepted exactly if the one given is.
 -- Assumes nothing.
 use Prim.Native.Nat.{ℕ, zero, suc, _+_, _-_, _≤_, _<_}
 use native.Mathlib.Numerals.{add-one}
 use native.Mathlib.Omega.{arith}
-use mathlib.Core.Path.{_≡_, refl, sym, _∙_, ap, ap₂}
+use mathlib.Core.Path.{_≡_, refl, sym, _∙_, ap}
 use mathlib.Core.Bool.{Bool, true, false, _&&_, _||_}
 use mathlib.Core.List.{List, [], _∷_, _++_, map, append-nil}
-use lib.ListN.{length, take, set, getD, replicate}
+use lib.ListN.{length, take, drop, set, getD, replicate}
 use lib.Seq.{take-append-le, take-append-add, take-suc, append-snoc, set-at, length-take-le, take-all}
 use lib.Dec.{leb, ltb, eqb}
-use borrow.Author.Tests.{ltb-false, lt-leb}
+use borrow.Author.Tests.{ltb-false, lt-leb, ne-eqb}
 use Rattle.model.specs.declared.GicVcpuId.{GicVcpuId}
 use Rattle.model.specs.declared.ItsConfig.{ItsConfig}
 use Rattle.model.specs.Choose.{if_then_else_}
@@ -18,11 +18,13 @@ use Rattle.model.specs.Arm.{LPI-base}
 use Rattle.model.specs.declared.Refusal.the-variants.{Unsound}
 use Rattle.model.specs.declared.Verdict.the-variants.{Accepted, Refused}
 use Rattle.model.specs.With.{aConfig}
-use Rattle.model.specs.Config.{processorsOf, noneTwice, soundConfig, freshUnit, noUnit}
+use Rattle.model.specs.Profile.{isProfile}
+use Rattle.model.specs.Config.{processorsOf, noneTwice, sizesIn01, soundConfig, freshUnit, noConfig, noUnit}
 use Rattle.model.specs.Entry.{configure}
+use Rattle.model.proofs.Cases.{cases}
 use Rattle.model.proofs.RowLaws.{map-append, map-length}
-use Rattle.host.specs.Calls.{processorsGiven, configGiven}
-use Rattle.host.specs.Parts.{countGiven}
+use Rattle.host.specs.Calls.{processorsGiven, setting, allZero, noneFurther, configGiven}
+use Rattle.host.specs.Parts.{countGiven, limitGiven}
 
 abbrev pub processor : ℕ → GicVcpuId
 processor n = record { 0 = n }
@@ -86,29 +88,56 @@ pub sound : (k : ItsConfig) → soundConfig k ≡ true → configure k ≡ recor
 unfolding configure
 sound k h = rw h
 
-none-after : (a b c d f : Bool) → (a && (b && (c && ((d && false) && f)))) ≡ false
-none-after true true true true f = refl
-none-after true true true false f = refl
-none-after true true false d f = refl
-none-after true false c d f = refl
-none-after false b c d f = refl
+none-after : (a b c d f p : Bool) → ((a && (b && (c && ((d && false) && f)))) && p) ≡ false
+none-after true true true true f p = refl
+none-after true true true false f p = refl
+none-after true true false d f p = refl
+none-after true false c d f p = refl
+none-after false b c d f p = refl
 
-module _ (limit budget frame : ℕ) (ps : List ℕ) where
+module _ (limit budget frame profile : ℕ) (ps : List ℕ) where
   abbrev made : ℕ → ItsConfig
-  made n = aConfig limit budget frame n (processorsGiven ps)
+  made n = aConfig limit budget frame profile n (processorsGiven ps)
 
   many : (n : ℕ) → 16 < n → soundConfig (made n) ≡ false
-  unfolding soundConfig
+  unfolding sizesIn01 soundConfig
   many n h =
       rw (lt-leb n 16 h)
-      (none-after (leb LPI-base limit && leb limit 16777215) (leb 1 budget && leb budget 1024) (eqb frame 65536 || eqb frame 131072) (leb 1 n) (noneTwice (processorsOf (made n))))
+      (none-after (leb LPI-base limit && leb limit 16777215) (leb 1 budget && leb budget 1024) (eqb frame 65536 || eqb frame 131072) (leb 1 n)
+      (noneTwice (processorsOf (made n))) (isProfile profile))
 
   by-count : (b : Bool) → ltb (length ps) 17 ≡ b → configure (made (if b then length ps else 17)) ≡ configure (made (length ps))
   by-count true e = refl
   by-count false e = unsound (made 17) (many 17 (omega arith)) ∙ sym (unsound (made (length ps)) (many (length ps) (let h = ltb-false (length ps) 17 e in omega arith)))
 
-  pub given : {count : ℕ} {listed : List GicVcpuId} → count ≡ countGiven ps → listed ≡ processorsGiven ps →
-      configure (aConfig limit budget frame count listed) ≡ configure (configGiven limit budget frame ps)
-  given c l =
-      ap₂ (λ n ls. configure (aConfig limit budget frame n ls)) c l
-      ∙ by-count (ltb (length ps) 17) refl
+-- no configuration has the limit 0
+no-limit : (budget frame profile count : ℕ) (ls : List GicVcpuId) → soundConfig (aConfig 0 budget frame profile count ls) ≡ false
+unfolding sizesIn01 soundConfig
+no-limit budget frame profile count ls = refl
+
+pub given : (ss ps : List ℕ) {limit budget frame profile count : ℕ} {listed : List GicVcpuId} → limit ≡ limitGiven ss → budget ≡ setting ss 1 → frame ≡ setting ss 2 →
+    profile ≡ setting ss 3 → count ≡ countGiven ps → listed ≡ processorsGiven ps → configure (aConfig limit budget frame profile count listed) ≡ configure (configGiven ss ps)
+given ss ps m b f p c l =
+    rw (m, b, f, p, c, l)
+    (cases (noneFurther ss)
+    (λ y. rw y (by-count (setting ss 0) (setting ss 1) (setting ss 2) (setting ss 3) ps (ltb (length ps) 17) refl))
+    (λ n. rw n
+    (unsound (aConfig 0 (setting ss 1) (setting ss 2) (setting ss 3) (countGiven ps) (processorsGiven ps)) (no-limit (setting ss 1) (setting ss 2) (setting ss 3) (countGiven ps) (processorsGiven ps))
+    ∙ sym (unsound noConfig (no-limit 0 0 0 0 (replicate 16 none))))))
+
+-- The settings behind those that are known: from one of them on.
+pub zero-more : (ss : List ℕ) (i : ℕ) → i < length ss → getD ss i 0 ≡ 0 → allZero (drop i ss) ≡ allZero (drop (suc i) ss)
+zero-more [] i h z = absurd (omega arith)
+zero-more (n ∷ ss) zero h z = rw z
+zero-more (n ∷ ss) (suc i) h z = zero-more ss i (omega arith) z
+
+pub zero-ends : (ss : List ℕ) (i : ℕ) → length ss ≤ i → allZero (drop i ss) ≡ true
+zero-ends [] zero h = refl
+zero-ends [] (suc i) h = refl
+zero-ends (n ∷ ss) zero h = absurd (omega arith)
+zero-ends (n ∷ ss) (suc i) h = zero-ends ss i (omega arith)
+
+pub zero-not : (ss : List ℕ) (i : ℕ) → i < length ss → (getD ss i 0 ≡ 0 → ⊥) → allZero (drop i ss) ≡ false
+zero-not [] i h z = absurd (omega arith)
+zero-not (n ∷ ss) zero h z = rw (ne-eqb n 0 z)
+zero-not (n ∷ ss) (suc i) h z = zero-not ss i (omega arith) z

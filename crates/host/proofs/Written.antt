@@ -11,14 +11,18 @@ use Rattle.model.specs.declared.ItsAction.{ItsAction}
 use Rattle.model.specs.declared.ItsConfig.{ItsConfig}
 use Rattle.model.specs.declared.ItsRegisters.{ItsRegisters}
 use Rattle.model.specs.declared.RegisterWrite.{RegisterWrite}
+use Rattle.model.specs.declared.Refusal.the-variants.{Unsound}
 use Rattle.model.specs.declared.WriteAnswer.{WriteAnswer}
+use Rattle.model.specs.declared.WriteAnswer.the-variants.{NotTaken}
 use Rattle.model.specs.With.{withRegisters}
-use Rattle.model.specs.Config.{soundUnit}
+use Rattle.model.specs.Config.{sizesIn01, soundConfig, soundUnit}
 use Rattle.model.specs.Queue.{Window, runQueue}
+use Rattle.model.specs.Access.{checkWrite}
 use Rattle.model.specs.Writing.{registerWrite}
 use Rattle.model.specs.Entry.{afterRun, running, concluded, stores, write}
+use Rattle.model.proofs.Cases.{never}
 use Rattle.model.proofs.RowLaws.{map-length}
-use Rattle.lent_tables.specs.Numbers.{configIn, registersIn, unitIn}
+use Rattle.lent_tables.specs.Numbers.{laidOut, configIn, registersIn, unitIn}
 use Rattle.lent_queue.specs.Actions.{actionIn, rowWith}
 use Rattle.lent_queue.specs.Turns.{Leaves}
 use Rattle.host.specs.Calls.{actionsBy, actionsMade}
@@ -26,7 +30,8 @@ use Rattle.host.specs.Parts.{Wrote}
 use Rattle.model.proofs.Ways.{runs-ready}
 
 module _ (w : Window) (row s₀ : List ℕ) (offset width value : ℕ) (a : RegisterWrite) (k : ItsConfig) (r : ItsRegisters)
-    (config : k ≡ configIn s₀) (registers : r ≡ registersIn s₀) (does : a ≡ registerWrite k r (length row) offset width value) (s : List ℕ) (put : unitIn s ≡ withRegisters (unitIn s₀) (a .registers)) where
+    (config : k ≡ configIn s₀) (registers : r ≡ registersIn s₀) (does : a ≡ registerWrite k r (length row) offset width value) (s : List ℕ) (put : unitIn s ≡ withRegisters (unitIn s₀) (a .registers))
+    (there : laidOut s₀ ≡ true) where
   abbrev actions : List ItsAction
   actions = map actionIn row
 
@@ -57,6 +62,7 @@ module _ (w : Window) (row s₀ : List ℕ) (offset width value : ℕ) (a : Regi
       let e : write w actions (unitIn s₀) offset width value ≡ afterRun (runQueue w (unitIn s)) actions = is-written ∙ rw (on, put) refl in
       let m : actionsMade w actions (unitIn s₀) offset width value ≡ runQueue w (unitIn s) .actions = is-made ∙ rw (on, put) refl in
       record {
+        alone = λ n. never (laidOut s₀) there n;
         unit = l .unit ∙ sym (ap (λ o. o .written .unit) e);
         answer = l .answer ∙ sym (ap (λ o. o .written .answer) e);
         row = l .rows ∙ ap (λ d. rowWith d row) (sym m);
@@ -67,7 +73,19 @@ module _ (w : Window) (row s₀ : List ℕ) (offset width value : ℕ) (a : Regi
       let e : write w actions (unitIn s₀) offset width value ≡ record { written = record { unit = unitIn s; answer = a .answer }; row = actions } = is-written ∙ rw (off, put) refl in
       let m : actionsMade w actions (unitIn s₀) offset width value ≡ [] = is-made ∙ rw off refl in
       record {
+        alone = λ n. never (laidOut s₀) there n;
         unit = sym (ap (λ o. o .written .unit) e);
         answer = sym (ap (λ o. o .written .answer) e);
         row = ap (λ d. rowWith d row) (sym m);
       }
+
+-- Numbers of another layout are a unit without a configuration: the write is refused with 1, and they stay.
+pub wrote-none : (w : Window) (row s : List ℕ) (offset width value : ℕ) → laidOut s ≡ false → Wrote w row s offset width value (NotTaken Unsound 0 0 0 0) s row
+unfolding write registerWrite checkWrite configIn sizesIn01 soundConfig
+wrote-none w row s offset width value n =
+    record {
+      unit = rw n refl;
+      answer = rw n refl;
+      alone = λ _. refl;
+      row = rw n refl;
+    }

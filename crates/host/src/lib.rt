@@ -16,8 +16,8 @@ ghost use Rattle.model.specs.Config.{noUnit};
 ghost use Rattle.model.specs.Entry.{configure as configureOf, translate as translateOf};
 ghost use Rattle.lent_tables.specs.Numbers.{NUMBERS, unitIn};
 ghost use Rattle.lent_queue.specs.Turns.{lent};
-ghost use Rattle.host.specs.Calls.{Tells, processorsGiven, CallConfigures, CallReads, CallWrites, CallTranslates};
-ghost use Rattle.host.specs.Parts.{countGiven, Wrote};
+ghost use Rattle.host.specs.Calls.{Tells, processorsGiven, setting, noneFurther, CallConfigures, CallReads, CallWrites, LeftAlone, CallTranslates};
+ghost use Rattle.host.specs.Parts.{countGiven, limitGiven, Wrote};
 
 // The five numbers of an answer.
 fn tell(told: &mut [u64], numbers: [u64; 5]) -> u64
@@ -87,23 +87,62 @@ fn configure(state: &mut Numbers, config: ItsConfig) -> Verdict
     Verdict::Accepted
 }
 
+// A setting: one that is left out is 0.
+fn setting_given(settings: &[u32], at: usize) -> u32
+    ensures { λ r. ⌜ r ≡ setting (now (settings .entry)) at ⌝ }
+{
+    if settings.len() <= at {
+        return 0;
+    }
+    settings[at]
+}
+
+// Whether every setting behind the four is 0.
+fn none_further(settings: &[u32]) -> bool
+    ensures { λ r. ⌜ r ≡ noneFurther (now (settings .entry)) ⌝ }
+{
+    let mut i: usize = 4;
+    loop {
+        if settings.len() <= i {
+            break true;
+        }
+        if settings[i] != 0 {
+            break false;
+        }
+        i += 1;
+    }
+}
+
+// The highest LPI; 0, with which no configuration is accepted, where there is a setting that this unit does not know.
+fn limit_given(settings: &[u32]) -> u32
+    ensures { λ r. ⌜ r ≡ limitGiven (now (settings .entry)) ⌝ }
+{
+    if none_further(settings) {
+        return setting_given(settings, 0);
+    }
+    0
+}
+
 #[no_mangle]
 pub extern "C" fn its_configure(
     state: &mut Numbers,
-    lpi_limit: u32,
-    command_budget: u32,
-    frame_size: u32,
+    settings: &[u32],
     processors: &[u16],
     told: &mut [u64; 5],
 ) -> u64
-    ensures { λ r. ⌜ CallConfigures «lpi_limit» «command_budget» «frame_size» (now (processors .entry)) (unitIn (now (state .exit))) r (now (told .exit)) ⌝ }
+    ensures { λ r. ⌜ CallConfigures (now (settings .entry)) (now (processors .entry)) (unitIn (now (state .exit))) r (now (told .exit)) ⌝ }
 {
+    let limit = limit_given(settings);
+    let budget = setting_given(settings, 1);
+    let frame = setting_given(settings, 2);
+    let profile = setting_given(settings, 3);
     let count = count_given(processors);
     let listed = processors_given(processors);
     let config = ItsConfig {
-        lpi_limit: lpi_limit,
-        command_budget: command_budget,
-        frame_size: frame_size,
+        lpi_limit: limit,
+        command_budget: budget,
+        frame_size: frame,
+        profile: profile,
         processor_count: count,
         processors: listed,
     };
@@ -123,7 +162,7 @@ pub extern "C" fn its_read(state: &Numbers, offset: u64, width: u8, told: &mut [
     tell(told, n)
 }
 
-// A write, with any window and any row.
+// A write, with any window and any row. Numbers of another layout stay as they are.
 fn write(
     state: &mut Numbers,
     address: u64,
@@ -135,6 +174,15 @@ fn write(
 ) -> WriteAnswer
     ensures { λ r. ⌜ Wrote (lent address (now (bytes .entry))) (now (row .entry)) (now (state .entry)) offset width value r (now (state .exit)) (now (row .exit)) ⌝ }
 {
+    if !lent_tables::is_laid_out(state) {
+        return WriteAnswer::NotTaken {
+            refusal: Refusal::Unsound,
+            opcode: 0,
+            offset: 0,
+            done: 0,
+            actions: 0,
+        };
+    }
     let config = lent_tables::config_in(state);
     let registers = lent_tables::registers_in(state);
     let w = registers::write_access(config, registers, row.len(), offset, width, value);
@@ -157,7 +205,7 @@ pub extern "C" fn its_write(
     value: u64,
     told: &mut [u64; 5],
 ) -> u64
-    ensures { λ r. ⌜ CallWrites (lent address (now (bytes .entry))) (now (row .entry)) (unitIn (now (state .entry))) offset width value (unitIn (now (state .exit))) (now (row .exit)) r (now (told .exit)) ⌝ }
+    ensures { λ r. ⌜ CallWrites (lent address (now (bytes .entry))) (now (row .entry)) (unitIn (now (state .entry))) offset width value (unitIn (now (state .exit))) (now (row .exit)) r (now (told .exit)) × LeftAlone (now (state .entry)) (now (state .exit)) ⌝ }
 {
     let answer = write(state, address, bytes, row, offset, width, value);
     let n = answers::write_numbers(answer);

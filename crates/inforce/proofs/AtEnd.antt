@@ -7,7 +7,7 @@ use mathlib.Core.Logic.{inl, inr}
 use lib.ListN.{length, drop}
 use Rattle.model.specs.declared.ItsConfig.{ItsConfig}
 use Rattle.model.specs.declared.ItsState.{ItsState}
-use Rattle.model.specs.Config.{soundConfig, noUnit}
+use Rattle.model.specs.Config.{sizesIn01, soundConfig, noUnit}
 use Rattle.model.specs.Entry.{configure, write}
 use Rattle.model.specs.Trace.{Record, CF, GM, RD, WR, TR, Parsed, whole, broken, parse, Running, atStart, next, lentRow, writeOf}
 use Rattle.model.proofs.Cases.{cases}
@@ -61,7 +61,7 @@ standing trace = walked (length trace) 0 atStart trace (inl refl)
 
 -- where none was configured no line is printed: antt computes it
 nothing : unitLines noUnit ≡ []
-unfolding unitLines mappingsOf devicesOf mappingAt mappedAt
+unfolding unitLines mappingsOf devicesOf mappingAt mappedAt sizesIn01 soundConfig
 nothing = refl
 
 told : (u : ItsState) → Standing u → Told u

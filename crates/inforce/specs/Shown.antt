@@ -5,9 +5,11 @@ use mathlib.Core.List.{List, [], _∷_, _++_, map}
 use lib.Dec.{leb, eqb}
 use lib.ListN.{length, drop, getD}
 use Rattle.model.specs.declared.ItsDevice.{ItsDevice}
+use Rattle.model.specs.declared.ItsConfig.{ItsConfig}
 use Rattle.model.specs.declared.ItsState.{ItsState}
 use Rattle.model.specs.Choose.{if_then_else_}
 use Rattle.model.specs.Text.{ascii}
+use Rattle.model.specs.Config.{soundConfig}
 use Rattle.model.specs.Trace.{Record, Parsed, whole, broken, parse, line, Running, atStart, next, linesOf, fitting}
 use Rattle.mappings.specs.declared.Mapping.{Mapping}
 use Rattle.mappings.specs.Mappings.{mappingsOf, devicesOf}
@@ -22,9 +24,16 @@ mappingLine m = line "MP" (m .device .0 ∷ m .event .0 ∷ m .lpi .0 ∷ m .col
 abbrev pub deviceLine : ItsDevice → List ℕ
 deviceLine r = line "DV" (r .device .0 ∷ r .«event_bits» ∷ [])
 
--- first the mappings in force, then the mapped devices, each in the order of the unit's table
+-- `PF profile`, 0 for base and 1 for strict: of a unit that was configured
+abbrev pub profileLine : ItsConfig → List ℕ
+profileLine k = line "PF" (k .profile ∷ [])
+
+abbrev pub profileLines : ItsConfig → List (List ℕ)
+profileLines k = if soundConfig k then profileLine k ∷ [] else []
+
+-- first the profile, then the mappings in force, then the mapped devices, each in the order of the unit's table
 unfoldable pub unitLines : ItsState → List (List ℕ)
-unitLines u = map mappingLine (mappingsOf u) ++ map deviceLine (devicesOf u)
+unitLines u = profileLines (u .config) ++ (map mappingLine (mappingsOf u) ++ map deviceLine (devicesOf u))
 
 -- The records of a trace, one after the other.
 module _ {A : Type 0} (end : Running → A) (add : Running → ℕ → Parsed → A → A) where

@@ -1,5 +1,6 @@
-// The lines of a unit: its mappings in force, then its mapped devices.
+// The lines of a unit: its profile, its mappings in force, then its mapped devices.
 use mappings::Mapping;
+use model::ItsConfig;
 use model::ItsDevice;
 use model::ItsState;
 use text::Laid;
@@ -9,7 +10,20 @@ ghost use mathlib.Core.List.{[], _∷_, map};
 ghost use Rattle.model.specs.Choose.{if_then_else_};
 ghost use Rattle.mappings.specs.Mappings.{mappingsOf, devicesOf};
 ghost use Rattle.text.specs.Laying.{lineOf, output, layAll};
-ghost use Rattle.inforce.specs.Shown.{mappingLine, deviceLine, unitLines};
+ghost use Rattle.inforce.specs.Shown.{profileLine, profileLines, mappingLine, deviceLine, unitLines};
+
+// `PF profile`
+fn of_profile(config: ItsConfig) -> Line
+    ensures { λ r. ⌜ lineOf r ≡ profileLine config ⌝ }
+{
+    let profile = config.profile as u64;
+    Line {
+        first: b'P',
+        second: b'F',
+        count: 1,
+        numbers: [profile, 0, 0, 0, 0],
+    }
+}
 
 // `MP device event lpi collection processor`
 fn of_mapping(m: Mapping) -> Line
@@ -46,6 +60,17 @@ fn of_device(r: ItsDevice) -> Line
         count: 2,
         numbers: [d, bits, 0, 0, 0],
     }
+}
+
+// The line of the profile, of a unit that was configured.
+fn put_profile(out: &mut [u8], laid: Laid, config: ItsConfig) -> Laid
+    ensures { λ r. ⌜ output (now (out .exit)) r ≡ layAll (output (now (out .entry)) laid) (profileLines config) ⌝ }
+{
+    if registers::sizes::sound_config(config) {
+        let line = of_profile(config);
+        return text::put_line(out, laid, line);
+    }
+    laid
 }
 
 // The line of a mapping that is in force.
@@ -100,6 +125,8 @@ fn put_devices(out: &mut [u8], laid: Laid, unit: ItsState) -> Laid
 pub fn put_unit(out: &mut [u8], laid: Laid, unit: ItsState) -> Laid
     ensures { λ r. ⌜ output (now (out .exit)) r ≡ layAll (output (now (out .entry)) laid) (unitLines unit) ⌝ }
 {
-    let next = put_mappings(out, laid, unit);
+    let config = unit.config;
+    let first = put_profile(out, laid, config);
+    let next = put_mappings(out, first, unit);
     put_devices(out, next, unit)
 }

@@ -16,8 +16,8 @@ use Rattle.model.specs.declared.Refusal.the-variants.{BudgetExceeded}
 use Rattle.model.specs.declared.Written.{Written}
 use Rattle.model.specs.Refusal.{writeNumbers}
 use Rattle.model.specs.With.{withRegisters}
-use Rattle.model.specs.Config.{soundConfig, soundUnit}
-use Rattle.model.specs.Queue.{Window, waiting, run}
+use Rattle.model.specs.Config.{sizesIn01, soundConfig, soundUnit}
+use Rattle.model.specs.Queue.{Window, waiting, run, mayRun}
 use Rattle.model.specs.Entry.{afterRun, running, stores, write}
 use Rattle.model.proofs.Cases.{cases, never, and-left, and-right}
 use Rattle.model.proofs.RunLaws.{sound-stands}
@@ -27,15 +27,16 @@ use Rattle.answers.specs.declared.Counts.{Counts}
 use Rattle.answers.specs.Counting.{begun, halted}
 use Rattle.queue.specs.declared.Progress.{Progress}
 use Rattle.queue.specs.Ongoing.{Begun, progressOf, startOf, endOf}
+use Rattle.model.proofs.Profiles.{sizes-of}
 use Rattle.queue.proofs.Ongoing.{counts-off, counts-over, counts-on}
 use Rattle.its.specs.Contracts.{Writes}
 use Rattle.its.specs.Prepared.{prepared}
 
 -- The budget of a sound configuration is 1,024 at most.
 budget-most : (k : ItsConfig) → soundConfig k ≡ true → k .«command_budget» ≤ 1024
-unfolding soundConfig
+unfolding sizesIn01
 budget-most k s =
-    let rest = and-right (leb 8192 (k .«lpi_limit») && leb (k .«lpi_limit») 16777215) _ s in
+    let rest = and-right (leb 8192 (k .«lpi_limit») && leb (k .«lpi_limit») 16777215) _ (sizes-of k s) in
     leb-true _ _ (and-right (leb 1 (k .«command_budget»)) _ (and-left (leb 1 (k .«command_budget») && leb (k .«command_budget») 1024) _ rest))
 
 -- A run that begins in a sound unit.
@@ -70,7 +71,7 @@ module _ (w : Window) (row : List ItsAction) (u : ItsState) (sound : soundUnit u
   starts-so : Begun (startOf u) (length row)
   unfolding startOf
   starts-so =
-      cases (u .registers .enabled)
+      cases (mayRun (u .config) (u .registers))
       (λ on. cases fits
       (λ l. subst (λ n. Begun (from n) (length row)) (counts-on u on refl (leb-true _ _ l)) (begun-on (waiting (u .registers)) (leb-true _ _ l)))
       (λ l. subst (λ n. Begun (from n) (length row)) (counts-over u on refl (leb-false _ _ l)) (begun-none (halted BudgetExceeded) refl)))
@@ -79,7 +80,7 @@ module _ (w : Window) (row : List ItsAction) (u : ItsState) (sound : soundUnit u
   starts-to : endOf w (startOf u) row ≡ running w u row
   unfolding startOf running
   starts-to =
-      cases (u .registers .enabled)
+      cases (mayRun (u .config) (u .registers))
       (λ on. cases fits
       (λ l. ap (λ n. endOf w (from n) row) (sym (counts-on u on refl (leb-true _ _ l))) ∙ (end-begun (waiting (u .registers)) ∙ ap (λ q. afterRun q row) (sym (queue-runs w u on l))))
       (λ l. ap (λ n. endOf w (from n) row) (sym (counts-over u on refl (leb-false _ _ l))) ∙ ap (λ q. afterRun q row) (sym (queue-over w u on l))))

@@ -82,6 +82,7 @@ fn no_config() -> ItsConfig
         lpi_limit: 0,
         command_budget: 0,
         frame_size: 0,
+        profile: 0,
         processor_count: 0,
         processors: processors,
     }

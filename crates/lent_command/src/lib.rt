@@ -1,4 +1,4 @@
-// One command carried out on a unit that is lent as numbers: its checks in document 01's order, and then its effect. maps.rt has the commands that
+// One command carried out on a unit that is lent as numbers: its checks in their order, and then its effect. maps.rt has the commands that
 // map, pairs.rt those on a pair or a collection that is mapped.
 pub mod maps;
 pub mod pairs;
@@ -6,7 +6,18 @@ pub mod pairs;
 use lent_tables::Numbers;
 use model::Command;
 use model::Executed;
-ghost use Rattle.lent_tables.specs.Numbers.{Carries};
+use model::ItsDeviceId;
+ghost use mathlib.Core.Path.{_≡_};
+ghost use Rattle.model.specs.Step.{tooLarge};
+ghost use Rattle.lent_tables.specs.Numbers.{configIn, Carries};
+
+// In strict, a device number above 65535.
+fn is_too_large(state: &Numbers, device: ItsDeviceId) -> bool
+    ensures { λ r. ⌜ r ≡ tooLarge (configIn (now (state .entry))) device ⌝ }
+{
+    let profile = lent_tables::profile_in(state);
+    (profile == 1) & (65535 < device.0)
+}
 
 pub fn execute(state: &mut Numbers, x: Command) -> Executed
     ensures { λ r. ⌜ Carries (now (state .entry)) x r (now (state .exit)) ⌝ }

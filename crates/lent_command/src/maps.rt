@@ -14,12 +14,29 @@ ghost use mathlib.Core.Path.{_≡_};
 ghost use mathlib.Core.Bool.{true};
 ghost use Rattle.model.specs.declared.Command.the-variants.{Mapd, Mapc, Mapti, Mapi};
 ghost use Rattle.model.specs.Config.{listed};
-ghost use Rattle.model.specs.Step.{lpiInRange};
-ghost use Rattle.lent_tables.specs.Numbers.{configIn, Carries};
+ghost use Rattle.model.specs.Step.{lpiInRange, cleared as clearedOf};
+ghost use Rattle.lent_tables.specs.Numbers.{configIn, unitIn, Carries};
+
+// In strict, a device that is mapped loses its translations before it is mapped again.
+fn clear(state: &mut Numbers, device: ItsDeviceId)
+    ensures { λ _. ⌜ unitIn (now (state .exit)) ≡ clearedOf device (unitIn (now (state .entry))) ⌝ }
+{
+    if lent_tables::profile_in(state) != 1 {
+        return;
+    }
+    let held = lent_tables::records::find_device(state, device);
+    if lent_tables::DEVICE_RECORDS <= held {
+        return;
+    }
+    lent_tables::records::drop_translations_of(state, device);
+}
 
 pub fn map_device(state: &mut Numbers, device: ItsDeviceId, event_bits: u8, valid: bool) -> Executed
     ensures { λ r. ⌜ Carries (now (state .entry)) (Mapd device «event_bits» valid) r (now (state .exit)) ⌝ }
 {
+    if crate::is_too_large(state, device) {
+        return Executed::NotDone(Refusal::DeviceTooLarge);
+    }
     if !valid {
         lent_tables::records::drop_devices(state, device);
         lent_tables::records::drop_translations_of(state, device);
@@ -34,6 +51,7 @@ pub fn map_device(state: &mut Numbers, device: ItsDeviceId, event_bits: u8, vali
         event_bits: event_bits,
         used: true,
     };
+    clear(state, device);
     lent_tables::put_device(state, at, r);
     Executed::Done
 }
@@ -78,8 +96,8 @@ pub fn map_collection(
 fn lpi_in_range(state: &Numbers, lpi: LpiId) -> bool
     ensures { λ r. ⌜ r ≡ lpiInRange (configIn (now (state .entry))) lpi ⌝ }
 {
-    let limit = state[lent_tables::LPI_LIMIT] % 0x1_0000_0000;
-    (8192 <= lpi.0) & (lpi.0 as u64 <= limit)
+    let limit = lent_tables::lpi_limit_in(state);
+    (8192 <= lpi.0) & (lpi.0 <= limit)
 }
 
 // What MAPTI and MAPI share.
@@ -92,6 +110,9 @@ fn map_translation(
 ) -> Executed
     ensures { λ r. ⌜ Carries (now (state .entry)) (Mapti device event lpi collection) r (now (state .exit)) ⌝ }
 {
+    if crate::is_too_large(state, device) {
+        return Executed::NotDone(Refusal::DeviceTooLarge);
+    }
     if !lpi_in_range(state, lpi) {
         return Executed::NotDone(Refusal::LpiOutOfRange);
     }

@@ -26,6 +26,9 @@ pub fn move_translation(
 ) -> Executed
     ensures { λ r. ⌜ Carries (now (state .entry)) (Movi device event collection) r (now (state .exit)) ⌝ }
 {
+    if crate::is_too_large(state, device) {
+        return Executed::NotDone(Refusal::DeviceTooLarge);
+    }
     let to = lent_tables::records::find_collection(state, collection);
     if lent_tables::COLLECTION_RECORDS <= to {
         return Executed::NotDone(Refusal::CollectionUnmapped);
@@ -73,6 +76,9 @@ pub fn deliver(state: &Numbers, device: ItsDeviceId, event: EventId) -> Translat
 pub fn set_pending(state: &Numbers, device: ItsDeviceId, event: EventId, pending: bool) -> Executed
     ensures { λ r. ⌜ r ≡ executed (unitIn (now (state .entry))) (if pending then Int device event else Clear device event) ⌝ }
 {
+    if crate::is_too_large(state, device) {
+        return Executed::NotDone(Refusal::DeviceTooLarge);
+    }
     match deliver(state, device, event) {
         TranslateAnswer::Delivered(a) => {
             let target = a.target;
@@ -90,6 +96,9 @@ pub fn set_pending(state: &Numbers, device: ItsDeviceId, event: EventId, pending
 pub fn discard(state: &mut Numbers, device: ItsDeviceId, event: EventId) -> Executed
     ensures { λ r. ⌜ Carries (now (state .entry)) (Discard device event) r (now (state .exit)) ⌝ }
 {
+    if crate::is_too_large(state, device) {
+        return Executed::NotDone(Refusal::DeviceTooLarge);
+    }
     let at = lent_tables::records::find_pair(state, device, event);
     if lent_tables::PAIR_RECORDS <= at {
         return Executed::NotDone(Refusal::PairUnmapped);
@@ -101,6 +110,9 @@ pub fn discard(state: &mut Numbers, device: ItsDeviceId, event: EventId) -> Exec
 pub fn invalidate(state: &Numbers, device: ItsDeviceId, event: EventId) -> Executed
     ensures { λ r. ⌜ r ≡ executed (unitIn (now (state .entry))) (Inv device event) ⌝ }
 {
+    if crate::is_too_large(state, device) {
+        return Executed::NotDone(Refusal::DeviceTooLarge);
+    }
     let known = lent_tables::records::find_pair(state, device, event);
     if lent_tables::PAIR_RECORDS <= known {
         return Executed::NotDone(Refusal::PairUnmapped);

@@ -1,45 +1,44 @@
 -- The queue of a unit that is lent as numbers: the unit is off, more commands wait than the budget, or they are run.
 -- Assumes nothing.
-use Prim.Native.Nat.{ℕ, _%_, _^_, _<_, _≤_}
+use Prim.Native.Nat.{ℕ, _^_, _<_, _≤_}
 use native.Mathlib.Omega.{arith}
 use mathlib.Core.Path.{_≡_, refl}
-use mathlib.Core.Bool.{true}
+use mathlib.Core.Bool.{true, false}
 use mathlib.Core.List.{List}
 use lib.ListN.{length}
-use borrow.Author.Tests.{eq-eqb, ne-eqb, le-leb, lt-leb}
+use borrow.Author.Tests.{le-leb, lt-leb}
 use Rattle.model.specs.declared.Refusal.the-variants.{BudgetExceeded}
 use Rattle.model.specs.declared.WriteAnswer.{WriteAnswer}
 use Rattle.model.specs.declared.WriteAnswer.the-variants.{Taken, NotTaken}
 use Rattle.model.specs.Config.{soundUnit}
-use Rattle.model.specs.Queue.{Stands, Window, waiting, run, runQueue}
+use Rattle.model.specs.Queue.{Stands, Window, waiting, run, mayRun, runQueue}
 use Rattle.model.proofs.Answers.{queue-off, queue-over, queue-runs}
-use Rattle.lent_tables.specs.Numbers.{COMMAND-BUDGET, ENABLED, CREADR, word, configIn, registersIn, unitIn}
+use Rattle.lent_tables.specs.Numbers.{COMMAND-BUDGET, CREADR, word, configIn, registersIn, unitIn}
+use Rattle.lent_tables.proofs.Parts.{setting-small, budget-is}
 use Rattle.lent_queue.specs.Turns.{Leaves}
 use Rattle.model.proofs.RunLaws.{sound-stands}
 
 module _ (w : Window) (s row : List ℕ) where
-  pub is-off : (word s ENABLED % 2 ≡ 1 → ⊥) → Leaves (runQueue w (unitIn s)) row (Taken 0 0) s row
-  unfolding registersIn
-  is-off n = rw (queue-off w (unitIn s) (ne-eqb _ _ n)) (record { unit = refl; answer = refl; rows = refl })
+  pub is-off : mayRun (configIn s) (registersIn s) ≡ false → Leaves (runQueue w (unitIn s)) row (Taken 0 0) s row
+  is-off n = rw (queue-off w (unitIn s) n) (record { unit = refl; answer = refl; rows = refl })
 
-  module _ (on : word s ENABLED % 2 ≡ 1) {n : ℕ} (waits : n ≡ waiting (registersIn s)) where
-    pub is-over : word s COMMAND-BUDGET % 2 ^ 32 < n → Leaves (runQueue w (unitIn s)) row (NotTaken BudgetExceeded 0 (word s CREADR) 0 0) s row
-    unfolding registersIn configIn
+  module _ (on : mayRun (configIn s) (registersIn s) ≡ true) {n : ℕ} (waits : n ≡ waiting (registersIn s)) where
+    pub is-over : configIn s .«command_budget» < n → Leaves (runQueue w (unitIn s)) row (NotTaken BudgetExceeded 0 (word s CREADR) 0 0) s row
+    unfolding registersIn
     is-over h =
-        rw (queue-over w (unitIn s) (eq-eqb _ _ on) (lt-leb (waiting (registersIn s)) (word s COMMAND-BUDGET % 2 ^ 32) (rw (← waits) h)))
+        rw (queue-over w (unitIn s) on (lt-leb (waiting (registersIn s)) (configIn s .«command_budget») (rw (← waits) h)))
         (record { unit = refl; answer = refl; rows = refl })
 
-    pub is-run : {r : WriteAnswer} {left after : List ℕ} → n ≤ word s COMMAND-BUDGET % 2 ^ 32 → Leaves (run w n (unitIn s)) row r left after →
+    pub is-run : {r : WriteAnswer} {left after : List ℕ} → n ≤ configIn s .«command_budget» → Leaves (run w n (unitIn s)) row r left after →
         Leaves (runQueue w (unitIn s)) row r left after
-    unfolding registersIn configIn
+    unfolding registersIn
     is-run h l =
         rw (
-          queue-runs w (unitIn s) (eq-eqb _ _ on) (le-leb (waiting (registersIn s)) (word s COMMAND-BUDGET % 2 ^ 32) (rw (← waits) h)),
+          queue-runs w (unitIn s) on (le-leb (waiting (registersIn s)) (configIn s .«command_budget») (rw (← waits) h)),
           ← waits,
         ) l
 
 -- what a run asks for
-pub may-run : (s row : List ℕ) (n : ℕ) → (soundUnit (unitIn s) ≡ true) × (configIn s .«command_budget» ≤ length row) → n ≤ word s COMMAND-BUDGET % 2 ^ 32 →
+pub may-run : (s row : List ℕ) (n : ℕ) → (soundUnit (unitIn s) ≡ true) × (configIn s .«command_budget» ≤ length row) → n ≤ configIn s .«command_budget» →
     Stands (unitIn s) × (n ≤ length row) × (n < 2 ^ 32)
-unfolding configIn
-may-run s row n h b = (sound-stands (unitIn s) (h .0), omega (arith, h .1), omega arith)
+may-run s row n h b = (sound-stands (unitIn s) (h .0), omega (arith, h .1), omega (arith, setting-small s COMMAND-BUDGET, budget-is s))

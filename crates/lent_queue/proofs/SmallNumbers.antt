@@ -3,7 +3,7 @@
 -- Assumes nothing.
 use Prim.Native.Nat.{ℕ, zero, suc, _+_, _^_, _<_}
 use native.Mathlib.Omega.{arith}
-use mathlib.Core.Bool.{Bool, true, false}
+use mathlib.Core.Bool.{Bool, true, false, _&&_}
 use mathlib.Core.List.{List, [], _∷_, _++_}
 use mathlib.Core.Option.{Option, none, some}
 use lib.Dec.{leb, eqb}
@@ -31,8 +31,10 @@ use Rattle.model.specs.Table.{look, store, dropAll}
 use Rattle.model.specs.Keys.{isCollection, isPair, ofDevice, aCollection, aTranslation, noCollection, noTranslation, eventAsLpi}
 use Rattle.model.specs.Arm.{op-MAPD, op-MAPC, op-MAPTI, op-MAPI, op-MOVI, op-INT, op-CLEAR, op-DISCARD, op-INV, op-INVALL, op-SYNC}
 use Rattle.model.specs.Decode.{opcodeOf, eventField, processorField, lpiField, decode}
-use Rattle.model.specs.Step.{collectionOf, translationOf, deliveryIn, check, storeDevice, storeCollection, storeTranslation, pairIn, dropDevice, dropCollection, dropPair, movePair, effect, actionTo, actionsOn, actionsOf}
-use Rattle.model.specs.Queue.{Window, commandAt, waiting, commandAddress, Turn, passes, stays, judged, turnOn, turn, carryOut, Ran, goOn, run, runQueue}
+use Rattle.model.specs.Step.{collectionOf, translationOf, deliveryIn, deviceMapped, check, storeDevice, storeCollection, storeTranslation, pairIn, dropDevice, cleared, dropCollection, dropPair, movePair, effect, actionTo, actionsOn, actionsOf}
+use Rattle.model.proofs.Effects.{cleared-collections}
+use Rattle.model.specs.Profile.{isStrict}
+use Rattle.model.specs.Queue.{Window, commandAt, waiting, commandAddress, Turn, passes, stays, judged, turnOn, turn, carryOut, Ran, goOn, run, mayRun, runQueue}
 use Rattle.model.proofs.Answers.{queue-off, queue-over, queue-runs}
 use Rattle.model.proofs.Cases.{cases}
 use Rattle.lent_tables.specs.Numbers.{COLLECTIONS, KEYS, GOALS, COLLECTION-RECORDS, PAIR-RECORDS, word, rows, collectionIn, translationIn, collectionsIn, translationsIn, unitIn}
@@ -170,9 +172,16 @@ module _ (u : ItsState) (s : SmallUnit u) where
   moved d e c none h = s
   moved d e c (some r) h = stored d e (r .lpi) c h
 
+  cleared-small : (d : ItsDeviceId) → All SmallLpi (cleared d u .translations)
+  unfolding cleared
+  cleared-small d =
+      cases (isStrict (u .config .profile) && deviceMapped u d)
+      (λ y. rw y (all-drop SmallLpi (ofDevice d) noTranslation (omega arith) (s .translations)))
+      (λ n. rw n (s .translations))
+
   effect-small : (x : Command) → SmallCommand x → SmallUnit (effect u x)
   unfolding storeDevice storeCollection store dropDevice dropCollection dropPair movePair
-  effect-small (Mapd d bits true) h = record { collections = s .collections; translations = s .translations }
+  effect-small (Mapd d bits true) h = record { collections = rw (cleared-collections u d) (s .collections); translations = cleared-small d }
   effect-small (Mapd d bits false) h =
       record { collections = s .collections; translations = all-drop SmallLpi (ofDevice d) noTranslation (omega arith) (s .translations) }
   effect-small (Mapc c p true) h = record { collections = all-set SmallTarget _ (aCollection c p) h (s .collections); translations = s .translations }
@@ -234,7 +243,7 @@ run-small w (suc n) u s = on-small u s (turn w u) (turn-small w u) (run w n) (ru
 
 pub queue-small : (w : Window) (u : ItsState) → SmallUnit u → All Small (runQueue w u .actions)
 queue-small w u s =
-    cases (u .registers .enabled)
+    cases (mayRun (u .config) (u .registers))
     (λ on. cases (leb (waiting (u .registers)) (u .config .«command_budget»))
     (λ few. rw (queue-runs w u on few) (run-small w (waiting (u .registers)) u s))
     (λ many. rw (queue-over w u on many) no-more))

@@ -16,7 +16,7 @@ ghost use lib.ListN.{length};
 ghost use Rattle.model.specs.Config.{soundUnit};
 ghost use Rattle.model.specs.Register.{oneIf};
 ghost use Rattle.model.specs.Step.{check};
-ghost use Rattle.model.specs.Queue.{Stands, waiting as waitingOf, judged, turn as turnOf, run as runOf, runQueue};
+ghost use Rattle.model.specs.Queue.{Stands, waiting as waitingOf, judged, turn as turnOf, run as runOf, mayRun, runQueue};
 ghost use Rattle.lent_tables.specs.Numbers.{configIn, registersIn, unitIn};
 ghost use Rattle.lent_queue.specs.Actions.{actionWord};
 ghost use Rattle.lent_queue.specs.Turns.{lent, Turns, Leaves};
@@ -45,6 +45,17 @@ fn waiting(state: &Numbers) -> u64
         size,
     )
         / 32
+}
+
+// The queue runs in an enabled unit; in strict only where CBASER's bit 63 is set.
+fn may_run(state: &Numbers) -> bool
+    ensures { λ r. ⌜ r ≡ mayRun (configIn (now (state .entry))) (registersIn (now (state .entry))) ⌝ }
+{
+    let profile = lent_tables::profile_in(state);
+    let valid = state[lent_tables::CBASER] / 0x8000_0000_0000_0000 % 2;
+    let held = (profile == 1) & (valid == 0);
+    let enabled = state[lent_tables::ENABLED] % 2 == 1;
+    enabled & !held
 }
 
 // A command that was read, carried out; its action goes to the place `at` of the row.
@@ -115,14 +126,14 @@ pub fn process_commands(
     requires { ⌜ (soundUnit (unitIn (now state)) ≡ true) × (configIn (now state) .«command_budget» ≤ length (now row)) ⌝ }
     ensures { λ r. ⌜ Leaves (runQueue (lent address (now (bytes .entry))) (unitIn (now (state .entry)))) (now (row .entry)) r (now (state .exit)) (now (row .exit)) ⌝ }
 {
-    if state[lent_tables::ENABLED] % 2 != 1 {
+    if !may_run(state) {
         return WriteAnswer::Taken {
             done: 0,
             actions: 0,
         };
     }
     let count = waiting(state);
-    let budget = state[lent_tables::COMMAND_BUDGET] % 0x1_0000_0000;
+    let budget = lent_tables::command_budget_in(state) as u64;
     if budget < count {
         return WriteAnswer::NotTaken {
             refusal: Refusal::BudgetExceeded,

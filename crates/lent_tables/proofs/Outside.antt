@@ -16,9 +16,11 @@ use Rattle.model.specs.declared.ItsRegisters.{ItsRegisters}
 use Rattle.model.specs.With.{aUnit, withConfig, withRegisters, withDevices, withCollections, withTranslations}
 use Rattle.lent_tables.specs.Numbers.{
   NUMBERS,
+  LAYOUT,
   LPI-LIMIT,
   COMMAND-BUDGET,
   FRAME-SIZE,
+  PROFILE,
   PROCESSOR-COUNT,
   PROCESSORS,
   REGISTERS,
@@ -83,13 +85,15 @@ unit-is : {k k′ : ItsConfig} {r r′ : ItsRegisters} {ds ds′ : List ItsDevic
 unit-is k r ds cs ts = rw (k, r, ds, cs, ts)
 
 module _ {s t : List ℕ} where
-  config-same : Agree LPI-LIMIT REGISTERS s t → configIn t ≡ configIn s
+  config-same : Agree LAYOUT REGISTERS s t → configIn t ≡ configIn s
   unfolding configIn
   config-same h =
       rw (
+        h .at LAYOUT (omega arith) (omega arith),
         h .at LPI-LIMIT (omega arith) (omega arith),
         h .at COMMAND-BUDGET (omega arith) (omega arith),
         h .at FRAME-SIZE (omega arith) (omega arith),
+        h .at PROFILE (omega arith) (omega arith),
         h .at PROCESSOR-COUNT (omega arith) (omega arith),
         h .at PROCESSORS (omega arith) (omega arith),
         h .at (PROCESSORS + 1) (omega arith) (omega arith),
@@ -121,7 +125,7 @@ module _ {s t : List ℕ} where
   translations-same h =
       rows-same PAIR-RECORDS _ _ (λ i l. ap₂ translationIn (h .at (KEYS + i) (omega arith) (omega arith)) (h .at (GOALS + i) (omega arith) (omega arith)))
 
-  pub config-changed : Outside LPI-LIMIT REGISTERS s t → {k : ItsConfig} → configIn t ≡ k → unitIn t ≡ withConfig (unitIn s) k
+  pub config-changed : Outside LAYOUT REGISTERS s t → {k : ItsConfig} → configIn t ≡ k → unitIn t ≡ withConfig (unitIn s) k
   config-changed o e =
       unit-is e (registers-same (above o (omega arith))) (devices-same (above o (omega arith))) (collections-same (above o (omega arith)))
       (translations-same (above o (omega arith)))

@@ -13,8 +13,10 @@ use Rattle.model.specs.declared.GicVcpuId.{GicVcpuId}
 use Rattle.model.specs.declared.ItsConfig.{ItsConfig}
 use Rattle.model.specs.declared.ItsRegisters.{ItsRegisters}
 use Rattle.model.specs.With.{aConfig, withConfig, withRegisters, withProcessors}
+use Rattle.model.specs.Config.{noConfig}
 use Rattle.model.specs.Queue.{pastCommand}
-use Rattle.lent_tables.specs.Numbers.{NUMBERS, LPI-LIMIT, COMMAND-BUDGET, FRAME-SIZE, PROCESSOR-COUNT, PROCESSORS, REGISTERS, ENABLED, CBASER, CREADR, CWRITER, BASERS, processorAt, word, rows, configIn, registersIn, unitIn}
+use Rattle.lent_tables.specs.Numbers.{NUMBERS, LAYOUT, LAYOUT-NUMBER, LPI-LIMIT, COMMAND-BUDGET, FRAME-SIZE, PROFILE, PROCESSOR-COUNT, PROCESSORS, REGISTERS, ENABLED, CBASER, CREADR, CWRITER, BASERS, processorAt, word, rows, laidOut, settingAt, configAt, configIn, registersIn, unitIn}
+use Rattle.model.proofs.Cases.{cases}
 use Rattle.lent_tables.proofs.Rows.{rows-same, rows-list, sets-at}
 use Rattle.lent_tables.proofs.Outside.{Outside, outside-set, outside-sets, config-changed, registers-changed}
 
@@ -90,12 +92,38 @@ module _ (s : List ℕ) (long : length s ≡ NUMBERS) (w : ℕ) (e : w ≡ pastC
   pub creadr-put : unitIn (set s CREADR w) ≡ withRegisters (unitIn s) (pastCommand (registersIn s))
   creadr-put = registers-changed (outside-set s CREADR w (omega arith) (omega arith)) passed
 
--- A configuration is its five parts, and a list its elements.
-pub config-is : {a a′ b b′ c c′ d d′ : ℕ} {ps ps′ : List GicVcpuId} → a ≡ a′ → b ≡ b′ → c ≡ c′ → d ≡ d′ → ps ≡ ps′ → aConfig a b c d ps ≡ aConfig a′ b′ c′ d′ ps′
-config-is a b c d e = rw (a, b, c, d, e)
+-- A configuration is its six parts, and a list its elements.
+pub config-is : {a a′ b b′ c c′ d d′ e e′ : ℕ} {ps ps′ : List GicVcpuId} → a ≡ a′ → b ≡ b′ → c ≡ c′ → d ≡ d′ → e ≡ e′ → ps ≡ ps′ →
+    aConfig a b c d e ps ≡ aConfig a′ b′ c′ d′ e′ ps′
+config-is a b c d e f = rw (a, b, c, d, e, f)
 
 pub onto : {A : Type 0} {a b : A} {l m : List A} → a ≡ b → l ≡ m → (a ∷ l) ≡ (b ∷ m)
 onto e f = rw (e, f)
+
+-- Which configuration the numbers have, by their layout.
+pub config-there : (s : List ℕ) → laidOut s ≡ true → configIn s ≡ configAt s
+unfolding configIn
+config-there s y = rw y
+
+pub config-none : (s : List ℕ) → laidOut s ≡ false → configIn s ≡ noConfig
+unfolding configIn
+config-none s n = rw n
+
+module _ (s : List ℕ) where
+  pub setting-small : (at : ℕ) → settingAt s at < 2 ^ 32
+  setting-small at = cases (laidOut s) (λ y. rw y (omega arith)) (λ n. rw n (omega arith))
+
+  pub limit-is : settingAt s LPI-LIMIT ≡ configIn s .«lpi_limit»
+  unfolding configIn
+  limit-is = cases (laidOut s) (λ y. rw y) (λ n. rw n)
+
+  pub budget-is : settingAt s COMMAND-BUDGET ≡ configIn s .«command_budget»
+  unfolding configIn
+  budget-is = cases (laidOut s) (λ y. rw y) (λ n. rw n)
+
+  pub profile-is : settingAt s PROFILE ≡ configIn s .profile
+  unfolding configIn
+  profile-is = cases (laidOut s) (λ y. rw y) (λ n. rw n)
 
 -- The processors, in four numbers.
 
@@ -124,37 +152,49 @@ module _ (s : List ℕ) (long : length s ≡ NUMBERS) (ps : List GicVcpuId) (six
   firsts : Outside PROCESSORS (PROCESSORS + 4) s listed
   firsts = outside-sets s PROCESSORS (a ∷ b ∷ c ∷ d ∷ []) (omega arith) (omega arith)
 
-  configured : configIn listed ≡ withProcessors (configIn s) ps
-  unfolding configIn
-  configured =
+  placed : configAt listed ≡ withProcessors (configAt s) ps
+  placed =
       config-is (ap (λ v. v % 2 ^ 32) (firsts .before LPI-LIMIT (omega arith))) (ap (λ v. v % 2 ^ 32) (firsts .before COMMAND-BUDGET (omega arith)))
-      (ap (λ v. v % 2 ^ 32) (firsts .before FRAME-SIZE (omega arith))) (ap (λ v. v % 2 ^ 8) (firsts .before PROCESSOR-COUNT (omega arith)))
+      (ap (λ v. v % 2 ^ 32) (firsts .before FRAME-SIZE (omega arith))) (ap (λ v. v % 2 ^ 32) (firsts .before PROFILE (omega arith)))
+      (ap (λ v. v % 2 ^ 8) (firsts .before PROCESSOR-COUNT (omega arith)))
       (joined (ap fourIn (there 0 (omega arith)) ∙ ha) (ap fourIn (there 1 (omega arith)) ∙ hb) (ap fourIn (there 2 (omega arith)) ∙ hc) (ap fourIn (there 3 (omega arith)) ∙ hd)
       ∙ rows-list 16 (λ j. getD ps j none) ps none sixteen (λ j l. refl))
 
-  pub processors-put : unitIn listed ≡ withConfig (unitIn s) (withProcessors (configIn s) ps)
-  processors-put = config-changed (outside-sets s PROCESSORS (a ∷ b ∷ c ∷ d ∷ []) (omega arith) (omega arith)) configured
+  configured : laidOut s ≡ true → configIn listed ≡ withProcessors (configIn s) ps
+  unfolding configIn
+  configured y = rw (firsts .before LAYOUT (omega arith), y) placed
 
--- The whole configuration: four numbers, and then the processors.
-module _ (k : ItsConfig) (s : List ℕ) (long : length s ≡ NUMBERS) (a : k .«lpi_limit» < 2 ^ 32) (b : k .«command_budget» < 2 ^ 32) (c : k .«frame_size» < 2 ^ 32) (d : k .«processor_count» < 2 ^ 8) where
-  abbrev four : List ℕ
-  four = k .«lpi_limit» ∷ k .«command_budget» ∷ k .«frame_size» ∷ k .«processor_count» ∷ []
+  pub processors-put : laidOut s ≡ true → unitIn listed ≡ withConfig (unitIn s) (withProcessors (configIn s) ps)
+  processors-put y = config-changed (outside-sets s PROCESSORS (a ∷ b ∷ c ∷ d ∷ []) (omega arith) (omega arith)) (configured y)
 
-  fourth : (j : ℕ) → j < 4 → word (sets s LPI-LIMIT four) (LPI-LIMIT + j) ≡ getD four j 0
-  fourth j h = sets-at s LPI-LIMIT four j (omega arith) (omega arith)
+-- The whole configuration: the layout's number, five more, and then the processors.
+module _ (k : ItsConfig) (s : List ℕ) (long : length s ≡ NUMBERS) (a : k .«lpi_limit» < 2 ^ 32) (b : k .«command_budget» < 2 ^ 32) (c : k .«frame_size» < 2 ^ 32)
+    (p : k .profile < 2 ^ 32) (d : k .«processor_count» < 2 ^ 8) where
+  abbrev six : List ℕ
+  six = LAYOUT-NUMBER ∷ k .«lpi_limit» ∷ k .«command_budget» ∷ k .«frame_size» ∷ k .profile ∷ k .«processor_count» ∷ []
 
-  numbered : withProcessors (configIn (sets s LPI-LIMIT four)) (k .processors) ≡ k
+  abbrev begun : List ℕ
+  begun = sets s LAYOUT six
+
+  sixth : (j : ℕ) → j < 6 → word begun (LAYOUT + j) ≡ getD six j 0
+  sixth j h = sets-at s LAYOUT six j (omega arith) (omega arith)
+
+  pub begins : laidOut begun ≡ true
+  begins = rw (sixth 0 (omega arith))
+
+  numbered : withProcessors (configIn begun) (k .processors) ≡ k
   unfolding configIn
   numbered =
       let x : k .«lpi_limit» % 2 ^ 32 ≡ k .«lpi_limit» = omega arith in
       let y : k .«command_budget» % 2 ^ 32 ≡ k .«command_budget» = omega arith in
       let z : k .«frame_size» % 2 ^ 32 ≡ k .«frame_size» = omega arith in
+      let w : k .profile % 2 ^ 32 ≡ k .profile = omega arith in
       let v : k .«processor_count» % 2 ^ 8 ≡ k .«processor_count» = omega arith in
-      config-is (ap (λ n. n % 2 ^ 32) (fourth 0 (omega arith)) ∙ x) (ap (λ n. n % 2 ^ 32) (fourth 1 (omega arith)) ∙ y)
-      (ap (λ n. n % 2 ^ 32) (fourth 2 (omega arith)) ∙ z) (ap (λ n. n % 2 ^ 8) (fourth 3 (omega arith)) ∙ v) refl
+      rw begins
+      (config-is (ap (λ n. n % 2 ^ 32) (sixth 1 (omega arith)) ∙ x) (ap (λ n. n % 2 ^ 32) (sixth 2 (omega arith)) ∙ y)
+      (ap (λ n. n % 2 ^ 32) (sixth 3 (omega arith)) ∙ z) (ap (λ n. n % 2 ^ 32) (sixth 4 (omega arith)) ∙ w) (ap (λ n. n % 2 ^ 8) (sixth 5 (omega arith)) ∙ v) refl)
 
-  pub config-put : (t : List ℕ) → unitIn t ≡ withConfig (unitIn (sets s LPI-LIMIT four)) (withProcessors (configIn (sets s LPI-LIMIT four)) (k .processors)) →
-      unitIn t ≡ withConfig (unitIn s) k
+  pub config-put : (t : List ℕ) → unitIn t ≡ withConfig (unitIn begun) (withProcessors (configIn begun) (k .processors)) → unitIn t ≡ withConfig (unitIn s) k
   config-put t e =
-      e ∙ (ap (withConfig (unitIn (sets s LPI-LIMIT four))) numbered
-      ∙ ap (λ u. withConfig u k) (config-changed (outside-sets s LPI-LIMIT four (omega arith) (omega arith)) refl))
+      e ∙ (ap (withConfig (unitIn begun)) numbered
+      ∙ ap (λ u. withConfig u k) (config-changed (outside-sets s LAYOUT six (omega arith) (omega arith)) refl))

@@ -16,30 +16,45 @@ use Rattle.model.specs.declared.ItsRegisters.{ItsRegisters}
 use Rattle.model.specs.declared.ItsState.{ItsState}
 use Rattle.model.specs.declared.Command.{Command}
 use Rattle.model.specs.declared.Executed.{Executed}
+use Rattle.model.specs.Choose.{if_then_else_}
 use Rattle.model.specs.With.{aUnit, theRegisters, aConfig}
+use Rattle.model.specs.Config.{noConfig}
 use Rattle.model.specs.Step.{stepped, executed}
 
 -- How many numbers there are, and where each part begins.
 abbrev pub NUMBERS : ℕ
 NUMBERS = 608
 
+-- which layout the numbers have: each change of what stands where, or of what it means, counts this number up. (In the layout that had none the highest
+-- LPI stood here, 8192 or more.)
+abbrev pub LAYOUT : ℕ
+LAYOUT = 0
+
+-- the number of the layout that is said here
+abbrev pub LAYOUT-NUMBER : ℕ
+LAYOUT-NUMBER = 1
+
 -- the highest LPI
 abbrev pub LPI-LIMIT : ℕ
-LPI-LIMIT = 0
+LPI-LIMIT = 1
 
 abbrev pub COMMAND-BUDGET : ℕ
-COMMAND-BUDGET = 1
+COMMAND-BUDGET = 2
 
 -- the size of the frame, in bytes
 abbrev pub FRAME-SIZE : ℕ
-FRAME-SIZE = 2
+FRAME-SIZE = 3
+
+-- 0 for base, 1 for strict
+abbrev pub PROFILE : ℕ
+PROFILE = 4
 
 abbrev pub PROCESSOR-COUNT : ℕ
-PROCESSOR-COUNT = 3
+PROCESSOR-COUNT = 5
 
 -- the sixteen processors, four to a number, the first lowest; behind them up to the registers stands nothing
 abbrev pub PROCESSORS : ℕ
-PROCESSORS = 4
+PROCESSORS = 6
 
 -- here the configuration ends and the registers begin
 abbrev pub REGISTERS : ℕ
@@ -129,10 +144,23 @@ abbrev pub rows : {A : Type 0} → ℕ → (ℕ → A) → List A
 rows zero f = []
 rows (suc n) f = f zero ∷ rows n (λ i. f (suc i))
 
-unfoldable pub configIn : List ℕ → ItsConfig
-configIn s =
-    aConfig (word s LPI-LIMIT % 2 ^ 32) (word s COMMAND-BUDGET % 2 ^ 32) (word s FRAME-SIZE % 2 ^ 32) (word s PROCESSOR-COUNT % 2 ^ 8)
+-- the numbers have this layout
+abbrev pub laidOut : List ℕ → Bool
+laidOut s = eqb (word s LAYOUT) LAYOUT-NUMBER
+
+-- a number of the configuration: under another layout there is none
+abbrev pub settingAt : List ℕ → ℕ → ℕ
+settingAt s at = if laidOut s then word s at % 2 ^ 32 else 0
+
+-- what stands in the places of the configuration
+abbrev pub configAt : List ℕ → ItsConfig
+configAt s =
+    aConfig (word s LPI-LIMIT % 2 ^ 32) (word s COMMAND-BUDGET % 2 ^ 32) (word s FRAME-SIZE % 2 ^ 32) (word s PROFILE % 2 ^ 32) (word s PROCESSOR-COUNT % 2 ^ 8)
     (rows 16 (λ i. processorAt (word s (PROCESSORS + i / 4)) (i % 4)))
+
+-- under another layout it is the configuration of a unit that has none: such numbers are a unit that answers 1 to everything
+unfoldable pub configIn : List ℕ → ItsConfig
+configIn s = if laidOut s then configAt s else noConfig
 
 unfoldable pub registersIn : List ℕ → ItsRegisters
 registersIn s = theRegisters (eqb (word s ENABLED % 2) 1) (word s CBASER) (word s CREADR) (word s CWRITER) (rows 8 (λ i. word s (BASERS + i)))

@@ -13,11 +13,13 @@ use model::ItsRegisters;
 use model::LpiId;
 use model::Translation;
 ghost use mathlib.Core.Path.{_≡_};
+ghost use mathlib.Core.Bool.{true};
 ghost use mathlib.Core.List.{[], _∷_};
 ghost use Prim.Native.Nat.{_*_, _+_, _%_, _^_, _<_};
 ghost use lib.ListN.{length, set};
 ghost use Rattle.model.specs.Choose.{if_then_else_};
 ghost use Rattle.model.specs.With.{withConfig, withRegisters, withDevices, withCollections, withTranslations, withProcessors};
+ghost use Rattle.model.specs.Config.{noConfig};
 ghost use Rattle.model.specs.Queue.{pastCommand};
 ghost use Rattle.lent_tables.specs.Numbers.{
   NUMBERS,
@@ -33,6 +35,9 @@ ghost use Rattle.lent_tables.specs.Numbers.{
   translationIn,
   word,
   rows,
+  laidOut,
+  settingAt,
+  configAt,
   configIn,
   registersIn,
   devicesIn,
@@ -44,15 +49,21 @@ ghost use Rattle.lent_tables.specs.Numbers.{
 // How many numbers there are, and where each part begins. specs/Numbers.antt says what stands there, under the same names.
 pub const NUMBERS: usize = 608;
 
-pub const LPI_LIMIT: usize = 0;
+pub const LAYOUT: usize = 0;
 
-pub const COMMAND_BUDGET: usize = 1;
+pub const LAYOUT_NUMBER: u64 = 1;
 
-pub const FRAME_SIZE: usize = 2;
+pub const LPI_LIMIT: usize = 1;
 
-pub const PROCESSOR_COUNT: usize = 3;
+pub const COMMAND_BUDGET: usize = 2;
 
-pub const PROCESSORS: usize = 4;
+pub const FRAME_SIZE: usize = 3;
+
+pub const PROFILE: usize = 4;
+
+pub const PROCESSOR_COUNT: usize = 5;
+
+pub const PROCESSORS: usize = 6;
 
 pub const ENABLED: usize = 20;
 
@@ -195,9 +206,59 @@ pub fn whole(state: &Numbers) -> usize
     all.len()
 }
 
-// Configuration and registers.
-pub fn config_in(state: &Numbers) -> ItsConfig
-    ensures { λ r. ⌜ r ≡ configIn (now (state .entry)) ⌝ }
+// Configuration and registers. Under another layout the configuration is that of a unit that has none.
+pub fn is_laid_out(state: &Numbers) -> bool
+    ensures { λ r. ⌜ r ≡ laidOut (now (state .entry)) ⌝ }
+{
+    state[LAYOUT] == LAYOUT_NUMBER
+}
+
+// A number of the configuration.
+fn setting(state: &Numbers, at: usize) -> u32
+    requires { ⌜ at < NUMBERS ⌝ }
+    ensures { λ r. ⌜ r ≡ settingAt (now (state .entry)) at ⌝ }
+{
+    if !is_laid_out(state) {
+        return 0;
+    }
+    low32(state[at])
+}
+
+pub fn lpi_limit_in(state: &Numbers) -> u32
+    ensures { λ r. ⌜ r ≡ configIn (now (state .entry)) .«lpi_limit» ⌝ }
+{
+    setting(state, LPI_LIMIT)
+}
+
+pub fn command_budget_in(state: &Numbers) -> u32
+    ensures { λ r. ⌜ r ≡ configIn (now (state .entry)) .«command_budget» ⌝ }
+{
+    setting(state, COMMAND_BUDGET)
+}
+
+pub fn profile_in(state: &Numbers) -> u32
+    ensures { λ r. ⌜ r ≡ configIn (now (state .entry)) .profile ⌝ }
+{
+    setting(state, PROFILE)
+}
+
+fn no_config() -> ItsConfig
+    ensures { λ r. ⌜ r ≡ noConfig ⌝ }
+{
+    let processor = GicVcpuId(0);
+    let processors = [processor; 16];
+    ItsConfig {
+        lpi_limit: 0,
+        command_budget: 0,
+        frame_size: 0,
+        profile: 0,
+        processor_count: 0,
+        processors: processors,
+    }
+}
+
+fn config_at(state: &Numbers) -> ItsConfig
+    ensures { λ r. ⌜ r ≡ configAt (now (state .entry)) ⌝ }
 {
     let w4 = state[PROCESSORS];
     let w5 = state[PROCESSORS + 1];
@@ -226,9 +287,19 @@ pub fn config_in(state: &Numbers) -> ItsConfig
         lpi_limit: low32(state[LPI_LIMIT]),
         command_budget: low32(state[COMMAND_BUDGET]),
         frame_size: low32(state[FRAME_SIZE]),
+        profile: low32(state[PROFILE]),
         processor_count: count,
         processors: processors,
     }
+}
+
+pub fn config_in(state: &Numbers) -> ItsConfig
+    ensures { λ r. ⌜ r ≡ configIn (now (state .entry)) ⌝ }
+{
+    if !is_laid_out(state) {
+        return no_config();
+    }
+    config_at(state)
 }
 
 pub fn registers_in(state: &Numbers) -> ItsRegisters
@@ -255,6 +326,7 @@ pub fn registers_in(state: &Numbers) -> ItsRegisters
 }
 
 fn put_processors(state: &mut Numbers, processors: [GicVcpuId; 16])
+    requires { ⌜ laidOut (now state) ≡ true ⌝ }
     ensures { λ _. ⌜ unitIn (now (state .exit)) ≡ withConfig (unitIn (now (state .entry))) (withProcessors (configIn (now (state .entry))) processors) ⌝ }
 {
     let _all = whole(state);
@@ -278,9 +350,11 @@ pub fn put_config(state: &mut Numbers, config: ItsConfig)
 {
     let _all = whole(state);
     let processors = config.processors;
+    state[LAYOUT] = LAYOUT_NUMBER;
     state[LPI_LIMIT] = config.lpi_limit as u64;
     state[COMMAND_BUDGET] = config.command_budget as u64;
     state[FRAME_SIZE] = config.frame_size as u64;
+    state[PROFILE] = config.profile as u64;
     state[PROCESSOR_COUNT] = config.processor_count as u64;
     put_processors(state, processors);
 }

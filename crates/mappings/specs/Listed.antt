@@ -14,6 +14,7 @@ use Rattle.model.specs.declared.ItsDevice.{ItsDevice}
 use Rattle.model.specs.declared.ItsState.{ItsState}
 use Rattle.model.specs.declared.Command.{Command}
 use Rattle.model.specs.Choose.{if_then_else_}
+use Rattle.model.specs.Profile.{profileOf}
 use Rattle.model.specs.Keys.{sameDevice, samePair, aDevice}
 use Rattle.model.specs.Paragraph.{DeviceMapped, ProcessorOf, InForce}
 use Rattle.mappings.specs.declared.Mapping.{Mapping}
@@ -32,9 +33,9 @@ howMany q (x ∷ xs) = if q x then suc (howMany q xs) else howMany q xs
 
 -- THE LISTS of the unit u are those of the history h.
 pub record Listed (u : ItsState) (h : List Command) : Type 0 where
-  -- a pair is listed with an LPI, a collection and a processor exactly if the commands put it in force with these
+  -- a pair is listed with an LPI, a collection and a processor exactly if, in the unit's profile, the commands put it in force with these
   pub mappings : (d : ItsDeviceId) (e : EventId) (l : LpiId) (c : CollectionId) (p : GicVcpuId) →
-      (aMapping d e l c p among mappingsOf u) ↔ (InForce h d e l c × ProcessorOf h c p)
+      (aMapping d e l c p among mappingsOf u) ↔ (InForce (profileOf (u .config)) h d e l c × ProcessorOf h c p)
   -- nothing else is listed
   pub no-others : (m : Mapping) → m among mappingsOf u → m .«in_force» ≡ true
   -- no pair is listed twice

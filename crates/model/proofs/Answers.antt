@@ -16,7 +16,7 @@ use Rattle.model.specs.declared.WriteAnswer.{WriteAnswer}
 use Rattle.model.specs.declared.WriteAnswer.the-variants.{Taken, NotTaken}
 use Rattle.model.specs.Choose.{if_then_else_, _or_then_}
 use Rattle.model.specs.Refusal.{writeNumbers}
-use Rattle.model.specs.Queue.{Window, waiting, Stop, Ran, ended, run, runQueue}
+use Rattle.model.specs.Queue.{Window, waiting, Stop, Ran, ended, run, mayRun, runQueue}
 use Rattle.model.specs.Entry.{answerOf, afterRun}
 use Rattle.model.specs.Trace.{actionLine, writeLine, writeLines}
 use Rattle.model.proofs.Cases.{never}
@@ -70,14 +70,14 @@ module _ (w : Window) (v : ItsState) where
   abbrev pub fits : Bool
   fits = leb (waiting (v .registers)) (v .config .«command_budget»)
 
-  pub queue-runs : v .registers .enabled ≡ true → fits ≡ true → runQueue w v ≡ run w (waiting (v .registers)) v
+  pub queue-runs : mayRun (v .config) (v .registers) ≡ true → fits ≡ true → runQueue w v ≡ run w (waiting (v .registers)) v
   unfolding runQueue
-  queue-runs = both-hold (v .registers .enabled) fits _ _ _
+  queue-runs = both-hold (mayRun (v .config) (v .registers)) fits _ _ _
 
-  pub queue-over : v .registers .enabled ≡ true → fits ≡ false → runQueue w v ≡ ended v (some (record { refusal = BudgetExceeded; opcode = 0 }))
+  pub queue-over : mayRun (v .config) (v .registers) ≡ true → fits ≡ false → runQueue w v ≡ ended v (some (record { refusal = BudgetExceeded; opcode = 0 }))
   unfolding runQueue
-  queue-over = second-fails (v .registers .enabled) fits _ _ _
+  queue-over = second-fails (mayRun (v .config) (v .registers)) fits _ _ _
 
-  pub queue-off : v .registers .enabled ≡ false → runQueue w v ≡ ended v none
+  pub queue-off : mayRun (v .config) (v .registers) ≡ false → runQueue w v ≡ ended v none
   unfolding runQueue
-  queue-off = first-fails (v .registers .enabled) fits _ _ _
+  queue-off = first-fails (mayRun (v .config) (v .registers)) fits _ _ _

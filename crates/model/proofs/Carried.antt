@@ -11,7 +11,7 @@ use Rattle.model.specs.With.{withRegisters}
 use Rattle.model.specs.Queue.{carryOut}
 use Rattle.model.specs.Passed.{CarriedOut, nothing, one-more}
 use Rattle.model.proofs.Agreement.{Agrees, agrees-step}
-use Rattle.model.proofs.Backing.{Sound, sound-step}
+use Rattle.model.proofs.Backing.{Sound, clean, sound-step}
 use Rattle.model.proofs.Turns.{carried-config}
 
 -- the registers have no part in it
@@ -30,6 +30,6 @@ lengthened h (one-more {v = v} {h = g} c x ok) a s =
     let m = lengthened h c a s in
     record {
       config = carried-config v x ok ∙ m .config;
-      agrees = agrees-registers _ _ _ (agrees-step v (g ++ h) (m .agrees) x ok);
+      agrees = agrees-registers _ _ _ (agrees-step v (g ++ h) (m .agrees) x (clean v (g ++ h) (m .agrees) (rw (m .config) (m .sound)) x) ok);
       sound = rw (m .config) at (sound-step v (g ++ h) (m .agrees) (rw (m .config) (m .sound)) x ok);
     }

@@ -20,7 +20,7 @@ use Rattle.model.specs.declared.Translation.{Translation}
 use Rattle.model.specs.declared.ItsState.{ItsState}
 use Rattle.model.specs.declared.Delivery.{Delivery}
 use Rattle.model.specs.declared.Refusal.{Refusal}
-use Rattle.model.specs.declared.Refusal.the-variants.{LpiOutOfRange, DeviceUnmapped, EventBeyondBits, CollectionUnmapped, PairUnmapped, ProcessorUnlisted, ResourceNotFound, TableFull}
+use Rattle.model.specs.declared.Refusal.the-variants.{LpiOutOfRange, DeviceUnmapped, EventBeyondBits, CollectionUnmapped, PairUnmapped, ProcessorUnlisted, DeviceTooLarge, ResourceNotFound, TableFull}
 use Rattle.model.specs.declared.Command.{Command}
 use Rattle.model.specs.declared.Command.the-variants.{Mapd, Mapc, Mapti, Mapi, Movi, Int, Clear, Discard, Inv, Invall}
 use Rattle.model.specs.declared.Executed.{Executed}
@@ -31,6 +31,7 @@ use Rattle.model.specs.Choose.{if_then_else_, _or_then_, ifFound}
 use Rattle.model.specs.Table.{firstAt, look, place, room, store, dropAll}
 use Rattle.model.specs.Keys.{isDevice, isCollection, isPair, ofDevice, aDevice, aCollection, aTranslation, noDevice, noCollection, noTranslation, delivery, eventAsLpi}
 use Rattle.model.specs.With.{withDevices, withCollections, withTranslations}
+use Rattle.model.specs.Profile.{isStrict}
 use Rattle.model.specs.Config.{listed}
 use Rattle.model.specs.Step.{
   deviceOf,
@@ -38,17 +39,20 @@ use Rattle.model.specs.Step.{
   deliveryIn,
   lpiInRange,
   eventBelow,
-  pairTranslates,
-  pairMapped,
+  deviceMapped,
   collectionMapped,
   roomForPair,
   checkMapping,
+  deviceNamed,
+  tooLarge,
   check,
   storeDevice,
   storeCollection,
   storeTranslation,
   pairIn,
+  dropPairsOf,
   dropDevice,
+  cleared,
   dropCollection,
   dropPair,
   movePair,
@@ -59,9 +63,11 @@ use Rattle.model.specs.Step.{
   stepped,
   executed,
   execution,
+  accepts,
 }
 use Rattle.model.proofs.Cases.{cases, never}
 use Rattle.model.proofs.TableLaws.{look-at, look-none, place-same}
+use Rattle.model.proofs.Effects.{cleared-devices}
 
 -- The tables have their sizes: as arrays they do, and as a row of numbers.
 pub record Sized (u : ItsState) : Type 0 where
@@ -109,24 +115,43 @@ pub accepted : (u : ItsState) (x : Command) {v : ItsState} → check u x ≡ Acc
 unfolding executed stepped
 accepted u x h a e = (rw (h, a), rw (h, e))
 
+-- In strict, a device that is too large is refused before any other check, by every command that names one.
+pub too-large : (u : ItsState) (x : Command) {d : ItsDeviceId} → deviceNamed x ≡ some d → tooLarge (u .config) d ≡ true → Carried u x (NotDone DeviceTooLarge) u
+too-large u x n h = refused u x DeviceTooLarge (rw (n, h))
+
+-- In strict, the translations of a mapped device are dropped before it is mapped again.
+module _ (u : ItsState) (sizes : Sized u) (d : ItsDeviceId) where
+  pub base-keeps : isStrict (u .config .profile) ≡ false → u ≡ cleared d u
+  unfolding cleared
+  base-keeps n = rw n
+
+  module _ (s : isStrict (u .config .profile) ≡ true) {i : ℕ} (at-device : i ≡ firstAt (isDevice d) (u .devices)) where
+    pub first-keeps : 32 ≤ i → u ≡ cleared d u
+    unfolding cleared
+    first-keeps h = rw (s, none-at (isDevice d) (u .devices) at-device (sizes .devices) h)
+
+    pub again-drops : i < 32 → {v : ItsState} → v ≡ withTranslations u (dropAll (ofDevice d) noTranslation (u .translations)) → v ≡ cleared d u
+    unfolding cleared
+    again-drops h e = rw (s, found-at (isDevice d) (u .devices) at-device (sizes .devices) noDevice h) e
+
 -- MAPD and MAPC.
-module _ (u : ItsState) (sizes : Sized u) (d : ItsDeviceId) (bits : ℕ) where
+module _ (u : ItsState) (sizes : Sized u) (d : ItsDeviceId) (bits : ℕ) (small : tooLarge (u .config) d ≡ false) where
   pub device-drops : {v w : ItsState} → v ≡ withDevices u (dropAll (isDevice d) noDevice (u .devices)) →
       w ≡ withTranslations v (dropAll (ofDevice d) noTranslation (v .translations)) → Carried u (Mapd d bits false) Done w
   unfolding dropDevice
-  device-drops h k = accepted u (Mapd d bits false) refl refl (rw (k, h))
+  device-drops h k = accepted u (Mapd d bits false) (rw small) refl (rw (k, h))
 
   module _ {at : ℕ} (where-to : at ≡ place (isDevice d) (λ r. r .used) (u .devices)) where
     pub device-full : 32 ≤ at → Carried u (Mapd d bits true) (NotDone TableFull) u
-    device-full h = refused u (Mapd d bits true) TableFull (rw (no-room (isDevice d) (λ r. r .used) (u .devices) where-to (sizes .devices) h))
+    device-full h = refused u (Mapd d bits true) TableFull (rw (small, no-room (isDevice d) (λ r. r .used) (u .devices) where-to (sizes .devices) h))
 
-    pub device-stores : at < 32 → {v : ItsState} → v ≡ withDevices u (set (u .devices) at (aDevice d bits)) → Carried u (Mapd d bits true) Done v
+    pub device-stores : at < 32 → {w v : ItsState} → w ≡ cleared d u → v ≡ withDevices w (set (w .devices) at (aDevice d bits)) → Carried u (Mapd d bits true) Done v
     unfolding storeDevice
-    device-stores h e =
+    device-stores h {w} c e =
         accepted u (Mapd d bits true)
-        (rw (has-room (isDevice d) (λ r. r .used) (u .devices) where-to (sizes .devices) h))
+        (rw (small, has-room (isDevice d) (λ r. r .used) (u .devices) where-to (sizes .devices) h))
         refl
-        (e ∙ ap (withDevices u) (stores (isDevice d) (λ r. r .used) (u .devices) where-to (sizes .devices) (aDevice d bits)))
+        (rw (← c) (e ∙ ap (withDevices w) (rw (c, cleared-devices u d) (stores (isDevice d) (λ r. r .used) (u .devices) where-to (sizes .devices) (aDevice d bits)))))
 
 module _ (u : ItsState) (sizes : Sized u) (c : CollectionId) (t : GicVcpuId) where
   pub collection-drops : {v w : ItsState} → v ≡ withCollections u (dropAll (isCollection c) noCollection (u .collections)) →
@@ -152,15 +177,15 @@ module _ (u : ItsState) (sizes : Sized u) (c : CollectionId) (t : GicVcpuId) whe
         (e ∙ ap (withCollections u) (stores (isCollection c) (λ r. r .used) (u .collections) where-to (sizes .collections) (aCollection c t)))
 
 -- MAPTI: what each check asks for, in their order.
-module _ (u : ItsState) (sizes : Sized u) (d : ItsDeviceId) (e : EventId) (l : LpiId) (c : CollectionId) where
+module _ (u : ItsState) (sizes : Sized u) (d : ItsDeviceId) (e : EventId) (l : LpiId) (c : CollectionId) (small : tooLarge (u .config) d ≡ false) where
   pub lpi-beyond : lpiInRange (u .config) l ≡ false → Carried u (Mapti d e l c) (NotDone LpiOutOfRange) u
   unfolding checkMapping
-  lpi-beyond h = refused u (Mapti d e l c) LpiOutOfRange (rw h)
+  lpi-beyond h = refused u (Mapti d e l c) LpiOutOfRange (rw (small, h))
 
   module _ (in-range : lpiInRange (u .config) l ≡ true) {i : ℕ} (at-device : i ≡ firstAt (isDevice d) (u .devices)) where
     pub no-device : 32 ≤ i → Carried u (Mapti d e l c) (NotDone DeviceUnmapped) u
     unfolding checkMapping
-    no-device h = refused u (Mapti d e l c) DeviceUnmapped (rw (in-range, none-at (isDevice d) (u .devices) at-device (sizes .devices) h))
+    no-device h = refused u (Mapti d e l c) DeviceUnmapped (rw (small, in-range, none-at (isDevice d) (u .devices) at-device (sizes .devices) h))
 
     module _ (held : i < 32) {r : ItsDevice} (is : r ≡ getD (u .devices) i noDevice) where
       device-there : deviceOf u d ≡ some r
@@ -168,20 +193,20 @@ module _ (u : ItsState) (sizes : Sized u) (d : ItsDeviceId) (e : EventId) (l : L
 
       pub event-beyond : eventBelow (r .«event_bits») e ≡ false → Carried u (Mapti d e l c) (NotDone EventBeyondBits) u
       unfolding checkMapping
-      event-beyond h = refused u (Mapti d e l c) EventBeyondBits (rw (in-range, device-there, h))
+      event-beyond h = refused u (Mapti d e l c) EventBeyondBits (rw (small, in-range, device-there, h))
 
       module _ (below : eventBelow (r .«event_bits») e ≡ true) {j : ℕ} (at-collection : j ≡ firstAt (isCollection c) (u .collections)) where
         pub no-collection : 32 ≤ j → Carried u (Mapti d e l c) (NotDone CollectionUnmapped) u
         unfolding checkMapping
         no-collection h =
             refused u (Mapti d e l c) CollectionUnmapped
-            (rw (in-range, device-there, below, none-at (isCollection c) (u .collections) at-collection (sizes .collections) h))
+            (rw (small, in-range, device-there, below, none-at (isCollection c) (u .collections) at-collection (sizes .collections) h))
 
         module _ (home : j < 32) {at : ℕ} (where-to : at ≡ place (isPair d e) (λ r. r .used) (u .translations)) where
           last-check : (b : Bool) → roomForPair u d e ≡ b → check u (Mapti d e l c) ≡ (b or Refused TableFull then Accepted)
           unfolding checkMapping
           last-check b h =
-              rw (in-range, device-there, below, found-at (isCollection c) (u .collections) at-collection (sizes .collections) noCollection home, h)
+              rw (small, in-range, device-there, below, found-at (isCollection c) (u .collections) at-collection (sizes .collections) noCollection home, h)
 
           pub pairs-full : 256 ≤ at → Carried u (Mapti d e l c) (NotDone TableFull) u
           pairs-full h =
@@ -204,15 +229,16 @@ unfolding executed stepped
 as-mapti u d e c h = h
 
 -- MOVI: the collection first.
-module _ (u : ItsState) (sizes : Sized u) (d : ItsDeviceId) (e : EventId) (c : CollectionId) {j : ℕ} (at-collection : j ≡ firstAt (isCollection c) (u .collections)) where
+module _ (u : ItsState) (sizes : Sized u) (d : ItsDeviceId) (e : EventId) (c : CollectionId) (small : tooLarge (u .config) d ≡ false)
+    {j : ℕ} (at-collection : j ≡ firstAt (isCollection c) (u .collections)) where
   pub nowhere-to-move : 32 ≤ j → Carried u (Movi d e c) (NotDone CollectionUnmapped) u
-  nowhere-to-move h = refused u (Movi d e c) CollectionUnmapped (rw (none-at (isCollection c) (u .collections) at-collection (sizes .collections) h))
+  nowhere-to-move h = refused u (Movi d e c) CollectionUnmapped (rw (small, none-at (isCollection c) (u .collections) at-collection (sizes .collections) h))
 
   module _ (home : j < 32) {i : ℕ} (at-pair : i ≡ firstAt (isPair d e) (u .translations)) where
     pub nothing-to-move : 256 ≤ i → Carried u (Movi d e c) (NotDone PairUnmapped) u
     nothing-to-move h =
         refused u (Movi d e c) PairUnmapped
-        (rw (found-at (isCollection c) (u .collections) at-collection (sizes .collections) noCollection home, none-at (isPair d e) (u .translations) at-pair (sizes .translations) h))
+        (rw (small, found-at (isCollection c) (u .collections) at-collection (sizes .collections) noCollection home, none-at (isPair d e) (u .translations) at-pair (sizes .translations) h))
 
     pub pair-moves : i < 256 → {r : Translation} → r ≡ getD (u .translations) i noTranslation →
         {v : ItsState} → v ≡ withTranslations u (set (u .translations) i (aTranslation d e (r .lpi) c)) → Carried u (Movi d e c) Done v
@@ -222,7 +248,7 @@ module _ (u : ItsState) (sizes : Sized u) (d : ItsDeviceId) (e : EventId) (c : C
         let at : i ≡ place (isPair d e) (λ a. a .used) (u .translations) =
         at-pair ∙ sym (place-same (isPair d e) (λ a. a .used) (u .translations) (omega (arith, sizes .translations))) in
         accepted u (Movi d e c)
-        (rw (found-at (isCollection c) (u .collections) at-collection (sizes .collections) noCollection home, there))
+        (rw (small, found-at (isCollection c) (u .collections) at-collection (sizes .collections) noCollection home, there))
         refl
         (rw there (k ∙ ap (withTranslations u) (stores (isPair d e) (λ a. a .used) (u .translations) at (sizes .translations) (aTranslation d e (r .lpi) c))))
 
@@ -246,18 +272,18 @@ module _ (u : ItsState) (sizes : Sized u) (d : ItsDeviceId) (e : EventId) {i : �
     delivers h m = rw (pair-there, found-at (isCollection (r .collection)) (u .collections) at-collection (sizes .collections) noCollection h, ← m)
 
   -- DISCARD and INV.
-  pub nothing-to-drop : 256 ≤ i → Carried u (Discard d e) (NotDone PairUnmapped) u
-  nothing-to-drop h = refused u (Discard d e) PairUnmapped (rw (none-at (isPair d e) (u .translations) at-pair (sizes .translations) h))
+  pub nothing-to-drop : tooLarge (u .config) d ≡ false → 256 ≤ i → Carried u (Discard d e) (NotDone PairUnmapped) u
+  nothing-to-drop small h = refused u (Discard d e) PairUnmapped (rw (small, none-at (isPair d e) (u .translations) at-pair (sizes .translations) h))
 
-  pub pair-drops : i < 256 → {v : ItsState} → v ≡ withTranslations u (dropAll (isPair d e) noTranslation (u .translations)) → Carried u (Discard d e) Done v
+  pub pair-drops : tooLarge (u .config) d ≡ false → i < 256 → {v : ItsState} → v ≡ withTranslations u (dropAll (isPair d e) noTranslation (u .translations)) → Carried u (Discard d e) Done v
   unfolding dropPair
-  pair-drops h k = accepted u (Discard d e) (rw (found-at (isPair d e) (u .translations) at-pair (sizes .translations) noTranslation h)) refl k
+  pair-drops small h k = accepted u (Discard d e) (rw (small, found-at (isPair d e) (u .translations) at-pair (sizes .translations) noTranslation h)) refl k
 
-  pub no-pair-known : 256 ≤ i → NotDone PairUnmapped ≡ executed u (Inv d e)
-  no-pair-known h = refused u (Inv d e) PairUnmapped (rw (none-at (isPair d e) (u .translations) at-pair (sizes .translations) h)) .0
+  pub no-pair-known : tooLarge (u .config) d ≡ false → 256 ≤ i → NotDone PairUnmapped ≡ executed u (Inv d e)
+  no-pair-known small h = refused u (Inv d e) PairUnmapped (rw (small, none-at (isPair d e) (u .translations) at-pair (sizes .translations) h)) .0
 
-  pub pair-known : i < 256 → Done ≡ executed u (Inv d e)
-  pair-known h = accepted u (Inv d e) (rw (found-at (isPair d e) (u .translations) at-pair (sizes .translations) noTranslation h)) refl refl .0
+  pub pair-known : tooLarge (u .config) d ≡ false → i < 256 → Done ≡ executed u (Inv d e)
+  pair-known small h = accepted u (Inv d e) (rw (small, found-at (isPair d e) (u .translations) at-pair (sizes .translations) noTranslation h)) refl refl .0
 
 -- INVALL.
 module _ (u : ItsState) (sizes : Sized u) (c : CollectionId) {j : ℕ} (at-collection : j ≡ firstAt (isCollection c) (u .collections)) where
@@ -277,30 +303,35 @@ answers-none none h = (refl, cc)
 answers-none (some b) h = never true refl (cc)
 
 module _ (u : ItsState) (d : ItsDeviceId) (e : EventId) where
-  pub acts : (pending : Bool) {a : Delivery} → Delivered a ≡ ifFound (deliveryIn u d e) Delivered (NotDelivered ResourceNotFound) →
+  pub acts : tooLarge (u .config) d ≡ false → (pending : Bool) {a : Delivery} → Delivered a ≡ ifFound (deliveryIn u d e) Delivered (NotDelivered ResourceNotFound) →
       Acted (actionTo pending a) ≡ executed u (if pending then Int d e else Clear d e)
   unfolding executed actionsOn
-  acts true h = rw (answers-some (deliveryIn u d e) h)
-  acts false h = rw (answers-some (deliveryIn u d e) h)
+  acts small true h = rw (small, answers-some (deliveryIn u d e) h)
+  acts small false h = rw (small, answers-some (deliveryIn u d e) h)
 
-  pub acts-not : (pending : Bool) {why : Refusal} → NotDelivered why ≡ ifFound (deliveryIn u d e) Delivered (NotDelivered ResourceNotFound) →
+  pub acts-not : tooLarge (u .config) d ≡ false → (pending : Bool) {why : Refusal} → NotDelivered why ≡ ifFound (deliveryIn u d e) Delivered (NotDelivered ResourceNotFound) →
       NotDone why ≡ executed u (if pending then Int d e else Clear d e)
   unfolding executed actionsOn
-  acts-not true h = let o = answers-none (deliveryIn u d e) h in rw (o .0, o .1)
-  acts-not false h = let o = answers-none (deliveryIn u d e) h in rw (o .0, o .1)
+  acts-not small true h = let o = answers-none (deliveryIn u d e) h in rw (small, o .0, o .1)
+  acts-not small false h = let o = answers-none (deliveryIn u d e) h in rw (small, o .0, o .1)
+
+  -- and where its device is too large
+  pub acts-never : tooLarge (u .config) d ≡ true → (pending : Bool) → NotDone DeviceTooLarge ≡ executed u (if pending then Int d e else Clear d e)
+  acts-never h true = too-large u (Int d e) refl h .0
+  acts-never h false = too-large u (Clear d e) refl h .0
 
   -- a command that only looks leaves the unit, accepted or not
   pub int-keeps : u ≡ stepped u (Int d e)
   unfolding stepped
-  int-keeps = cases (pairTranslates u d e) (λ h. rw h) (λ h. rw h)
+  int-keeps = cases (accepts u (Int d e)) (λ h. rw h) (λ h. rw h)
 
   pub clear-keeps : u ≡ stepped u (Clear d e)
   unfolding stepped
-  clear-keeps = cases (pairTranslates u d e) (λ h. rw h) (λ h. rw h)
+  clear-keeps = cases (accepts u (Clear d e)) (λ h. rw h) (λ h. rw h)
 
   pub inv-keeps : u ≡ stepped u (Inv d e)
   unfolding stepped
-  inv-keeps = cases (pairMapped u d e) (λ h. rw h) (λ h. rw h)
+  inv-keeps = cases (accepts u (Inv d e)) (λ h. rw h) (λ h. rw h)
 
 pub invall-keeps : (u : ItsState) (c : CollectionId) → u ≡ stepped u (Invall c)
 unfolding stepped

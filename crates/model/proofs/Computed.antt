@@ -3,10 +3,10 @@
 use mathlib.Core.List.{List}
 use Prim.Native.Nat.{ℕ}
 use Rattle.model.specs.Table.{place, room, store}
-use Rattle.model.specs.Config.{listed, soundConfig, soundRing}
+use Rattle.model.specs.Config.{listed, sizesIn01, soundConfig, soundRing}
 use Rattle.model.specs.Decode.{decode}
-use Rattle.model.specs.Step.{deliveryIn, lpiInRange, eventBelow, checkMapping, storeDevice, storeCollection, storeTranslation, dropDevice, dropCollection, dropPair, movePair, actionsOn, stepped}
-use Rattle.model.specs.Queue.{commandAt, distance, waiting, turn, carryOut, runQueue}
+use Rattle.model.specs.Step.{deliveryIn, lpiInRange, eventBelow, checkMapping, tooLarge, storeDevice, storeCollection, storeTranslation, dropDevice, dropCollection, dropPair, cleared, movePair, actionsOn, stepped}
+use Rattle.model.specs.Queue.{commandAt, distance, waiting, turn, carryOut, held, mayRun, runQueue}
 use Rattle.model.specs.Register.{registerAt, typerValue, readPart, merged}
 use Rattle.model.specs.Access.{checkAccess, checkRead, checkWrite}
 use Rattle.model.specs.Writing.{toCtlr, toCbaser, toCwriter, toBaser, baserAfter, writerAccepted, registerWrite}
@@ -14,8 +14,8 @@ use Rattle.model.specs.Entry.{configure, readFrom, translate, running, w
 use Rattle.model.specs.Trace.{parse, decimal, line, writeOf, traceLines, printed}
 
 unfoldable pub shown : List ℕ → List ℕ
-unfolding place room store listed soundConfig soundRing decode deliveryIn lpiInRange eventBelow checkMapping storeDevice storeCollection
-    storeTranslation dropDevice dropCollection dropPair movePair actionsOn stepped commandAt distance waiting turn carryOut runQueue registerAt
+unfolding place room store listed sizesIn01 soundConfig soundRing decode deliveryIn lpiInRange eventBelow checkMapping tooLarge storeDevice storeCollection
+    storeTranslation dropDevice dropCollection dropPair cleared movePair actionsOn stepped commandAt distance waiting turn carryOut held mayRun runQueue registerAt
     typerValue readPart merged baserAfter writerAccepted configure checkAccess checkRead checkWrite toCtlr toCbaser toCwriter toBaser registerWrite
     readFrom translate running write parse decimal line writeOf traceLines printed
 shown trace = printed trace

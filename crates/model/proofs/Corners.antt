@@ -1,8 +1,9 @@
--- 01's corners P1 to P11, and 02's numbers of refused commands, hold of the definitions: antt computes each table.
+-- 01's corners P1 to P11, 02's numbers of refused commands and its strict profile hold of the definitions: antt computes each table.
 -- Assumes nothing.
 use mathlib.Core.Path.{_≡_, refl}
 use mathlib.Core.Bool.{true}
 use Rattle.model.specs.Corners.{corners, ofMapti, ofMapi, ofMovi, ofOthers, eightStays, allHold}
+use Rattle.model.specs.Strict.{ofStrict}
 use Rattle.model.proofs.Computed.{shown}
 
 pub all-corners : allHold corners ≡ true
@@ -28,3 +29,7 @@ told-of-others = refl
 pub eight-stays : allHold eightStays ≡ true
 unfolding shown eightStays
 eight-stays = refl
+
+pub strict-corners : allHold ofStrict ≡ true
+unfolding shown ofStrict
+strict-corners = refl

@@ -1,9 +1,9 @@
--- What an accepted command does to what the unit says of a device, of a collection and of a pair: exactly what History.antt says that it does.
--- By the laws of a table; no history is spoken of here.
+-- What an accepted command does to what the unit says of a device, of a collection and of a pair: exactly what History.antt says that it does in the
+-- unit's profile. By the laws of a table; no history is spoken of here.
 -- Assumes nothing.
 use Prim.Native.Nat.{ℕ}
 use mathlib.Core.Path.{_≡_, refl, sym, ap, ap₂, _∙_}
-use mathlib.Core.Bool.{Bool, true, false}
+use mathlib.Core.Bool.{Bool, true, false, not, _&&_}
 use mathlib.Core.Option.{Option, none, some}
 use borrow.Author.Tests.{eq-eqb}
 use Rattle.model.specs.declared.ItsDeviceId.{ItsDeviceId}
@@ -15,11 +15,12 @@ use Rattle.model.specs.declared.Translation.{Translation}
 use Rattle.model.specs.declared.ItsState.{ItsState}
 use Rattle.model.specs.declared.Command.{Command}
 use Rattle.model.specs.declared.Command.the-variants.{Mapd, Mapc, Mapti, Mapi, Movi, Int, Clear, Discard, Inv, Invall, Sync}
-use Rattle.model.specs.declared.Refusal.the-variants.{LpiOutOfRange, DeviceUnmapped, EventBeyondBits, CollectionUnmapped, PairUnmapped, ProcessorUnlisted, TableFull}
+use Rattle.model.specs.declared.Refusal.the-variants.{LpiOutOfRange, DeviceUnmapped, EventBeyondBits, CollectionUnmapped, PairUnmapped, ProcessorUnlisted, DeviceTooLarge, TableFull}
 use Rattle.model.specs.declared.Verdict.{Verdict}
 use Rattle.model.specs.declared.Verdict.the-variants.{Accepted, Refused}
 use Rattle.model.specs.Choose.{if_then_else_, _or_then_, whenFound, ifFound}
 use Rattle.model.specs.Keys.{sameDevice, sameCollection, samePair, isDevice, isCollection, isPair, ofDevice, aDevice, aCollection, aTranslation, noDevice, noCollection, noTranslation, eventAsLpi}
+use Rattle.model.specs.Profile.{isStrict, profileOf}
 use Rattle.model.specs.Config.{listed}
 use Rattle.model.specs.Step.{
   deviceOf,
@@ -34,11 +35,15 @@ use Rattle.model.specs.Step.{
   roomForCollection,
   roomForPair,
   checkMapping,
+  namesTooLarge,
+  checkIn01,
   storeDevice,
   storeCollection,
   storeTranslation,
   pairIn,
+  dropPairsOf,
   dropDevice,
+  cleared,
   dropCollection,
   dropPair,
   movePair,
@@ -58,6 +63,7 @@ use Rattle.model.proofs.KeyLaws.{
   pair-used,
   pair-has-device,
   pair-has-event,
+  device-eq,
   device-drops,
   collection-drops,
   device-drops-pair,
@@ -86,6 +92,31 @@ pub passed : (b : Bool) (r k : Verdict) → isAccepted r ≡ false → isAccepte
 passed true r k n h = (refl, h)
 passed false r k n h = never (isAccepted r) h n
 
+-- of a command that is accepted, the device that it names is not too large, and 01's checks hold
+pub own : (u : ItsState) (x : Command) → accepts u x ≡ true → isAccepted (checkIn01 u x) ≡ true
+own u x ok = passed (not (namesTooLarge (u .config) x)) (Refused DeviceTooLarge) (checkIn01 u x) refl ok .1
+
+-- Before a valid MAPD stores, the pairs of its device may be dropped; nothing else changes.
+module _ (u : ItsState) (d : ItsDeviceId) where
+  abbrev drops-first : Bool
+  drops-first = isStrict (u .config .profile) && deviceMapped u d
+
+  by-cleared : {A : Type 0} (f : ItsState → A) → f (dropPairsOf d u) ≡ f u → f (cleared d u) ≡ f u
+  unfolding cleared
+  by-cleared f e = cases drops-first (λ y. rw y e) (λ n. rw n)
+
+  pub cleared-config : cleared d u .config ≡ u .config
+  cleared-config = by-cleared (λ v. v .config) refl
+
+  pub cleared-registers : cleared d u .registers ≡ u .registers
+  cleared-registers = by-cleared (λ v. v .registers) refl
+
+  pub cleared-devices : cleared d u .devices ≡ u .devices
+  cleared-devices = by-cleared (λ v. v .devices) refl
+
+  pub cleared-collections : cleared d u .collections ≡ u .collections
+  cleared-collections = by-cleared (λ v. v .collections) refl
+
 module _ (u : ItsState) where
   -- what a MAPTI or MAPI was allowed by
   pub record Allowed (d : ItsDeviceId) (e : EventId) (l : LpiId) (c : CollectionId) : Type 0 where
@@ -109,13 +140,16 @@ module _ (u : ItsState) where
   pub moved : (d : ItsDeviceId) (e : EventId) (c : CollectionId) → accepts u (Movi d e c) ≡ true → (r : Translation) × (translationOf u d e ≡ some r)
   moved d e c ok =
       found (translationOf u d e)
-      (passed (pairMapped u d e) (Refused PairUnmapped) Accepted refl (passed (collectionMapped u c) (Refused CollectionUnmapped) _ refl ok .1) .0)
+      (passed (pairMapped u d e) (Refused PairUnmapped) Accepted refl (passed (collectionMapped u c) (Refused CollectionUnmapped) _ refl (own u (Movi d e c) ok) .1) .0)
 
   pub devices-effect : (x : Command) → accepts u x ≡ true → (d : ItsDeviceId) → bitsIn (effect u x) d ≡ after (ofDeviceSays d x) (bitsIn u d)
   unfolding storeDevice storeCollection storeTranslation dropDevice dropCollection dropPair movePair ofDeviceSays
   devices-effect (Mapd d′ bits true) ok d =
-      rw (look-store (isDevice d′) (isDevice d) (λ r. r .used) (aDevice d′ bits) (u .devices) (device-keys d′ d) (device-used d) (eq-eqb (d′ .0) (d′ .0) refl)
-      (passed (roomForDevice u d′) (Refused TableFull) Accepted refl ok .0))
+      rw (
+        cleared-devices u d′,
+        look-store (isDevice d′) (isDevice d) (λ r. r .used) (aDevice d′ bits) (u .devices) (device-keys d′ d) (device-used d) (eq-eqb (d′ .0) (d′ .0) refl)
+            (passed (roomForDevice u d′) (Refused TableFull) Accepted refl (own u (Mapd d′ bits true) ok) .0),
+      )
       (cases (sameDevice d′ d) (λ e. rw e) (λ e. rw e))
   devices-effect (Mapd d′ bits false) ok d =
       rw (look-drop (isDevice d′) (isDevice d) noDevice refl (u .devices) (sameDevice d′ d) (device-drops d d′))
@@ -134,11 +168,11 @@ module _ (u : ItsState) where
 
   pub collections-effect : (x : Command) → accepts u x ≡ true → (c : CollectionId) → targetIn (effect u x) c ≡ after (ofCollectionSays c x) (targetIn u c)
   unfolding storeDevice storeCollection storeTranslation dropDevice dropCollection dropPair movePair ofCollectionSays
-  collections-effect (Mapd d bits true) ok c = refl
+  collections-effect (Mapd d bits true) ok c = rw (cleared-collections u d)
   collections-effect (Mapd d bits false) ok c = refl
   collections-effect (Mapc c′ p true) ok c =
       rw (look-store (isCollection c′) (isCollection c) (λ r. r .used) (aCollection c′ p) (u .collections) (collection-keys c′ c) (collection-used c) (eq-eqb (c′ .0) (c′ .0) refl)
-      (passed (roomForCollection u c′) (Refused TableFull) Accepted refl (passed (listed (u .config) p) (Refused ProcessorUnlisted) _ refl ok .1) .0))
+      (passed (roomForCollection u c′) (Refused TableFull) Accepted refl (passed (listed (u .config) p) (Refused ProcessorUnlisted) _ refl (own u (Mapc c′ p true) ok) .1) .0))
       (cases (sameCollection c′ c) (λ e. rw e) (λ e. rw e))
   collections-effect (Mapc c′ p false) ok c =
       rw (look-drop (isCollection c′) (isCollection c) noCollection refl (u .collections) (sameCollection c′ c) (collection-drops c c′))
@@ -190,35 +224,65 @@ module _ (u : ItsState) where
       entryIn (storeTranslation d′ e′ l c u) d e ≡ pairAfter (if samePair d′ e′ d e then maps l c else leaves) (entryIn u d e)
   mapped d′ e′ l c ok d e = rw (stored d′ e′ l c (allowed d′ e′ l c ok .room) d e) (cases (samePair d′ e′ d e) (λ s. rw s) (λ s. rw s))
 
-  pub pairs-effect : (x : Command) → accepts u x ≡ true → (d : ItsDeviceId) (e : EventId) → entryIn (effect u x) d e ≡ pairAfter (partIn d e x) (entryIn u d e)
-  unfolding storeDevice storeCollection dropDevice dropCollection dropPair movePair partIn
-  pairs-effect (Mapd d′ bits true) ok d e = refl
-  pairs-effect (Mapd d′ bits false) ok d e =
+  -- what is left of a pair when the pairs of a device are dropped
+  without : (d′ d : ItsDeviceId) (e : EventId) → entryIn (dropPairsOf d′ u) d e ≡ (if sameDevice d′ d then none else entryIn u d e)
+  without d′ d e =
       rw (look-drop (ofDevice d′) (isPair d e) noTranslation refl (u .translations) (sameDevice d′ d) (λ a. device-drops-pair d e d′ e a))
       (cases (sameDevice d′ d) (λ s. rw s) (λ s. rw s))
-  pairs-effect (Mapc c p true) ok d e = refl
-  pairs-effect (Mapc c p false) ok d e =
+
+  -- a valid MAPD of a device that is not mapped meets no pair of it: so it is along every history, and then in strict it ends the pairs of its device
+  abbrev pub Clean : Command → Type 0
+  Clean x = (d : ItsDeviceId) (bits : ℕ) → x ≡ Mapd d bits true → deviceMapped u d ≡ false → (e : EventId) → entryIn u d e ≡ none
+
+  mapped-again : (d′ d : ItsDeviceId) (e : EventId) → (deviceMapped u d′ ≡ false → entryIn u d′ e ≡ none) → isStrict (u .config .profile) ≡ true →
+      entryIn (cleared d′ u) d e ≡ (if sameDevice d′ d then none else entryIn u d e)
+  unfolding cleared
+  mapped-again d′ d e clean s =
+      cases (deviceMapped u d′)
+      (λ y. rw (s, y) (without d′ d e))
+      (λ n. rw (s, n)
+      (cases (sameDevice d′ d)
+      (λ z. rw z (ap (λ a. entryIn u a e) (sym (device-eq d′ d z)) ∙ clean n))
+      (λ z. rw z)))
+
+  kept-in-base : (d : ItsDeviceId) → isStrict (u .config .profile) ≡ false → cleared d u ≡ u
+  unfolding cleared
+  kept-in-base d n = rw n
+
+  pub pairs-effect : (x : Command) → Clean x → accepts u x ≡ true → (d : ItsDeviceId) (e : EventId) →
+      entryIn (effect u x) d e ≡ pairAfter (partIn (profileOf (u .config)) d e x) (entryIn u d e)
+  unfolding storeDevice storeCollection dropDevice dropCollection dropPair movePair partIn
+  pairs-effect (Mapd d′ bits true) clean ok d e =
+      cases (isStrict (u .config .profile))
+      (λ s. rw (s, mapped-again d′ d e (λ n. clean d′ bits refl n e) s) (cases (sameDevice d′ d) (λ z. rw z) (λ z. rw z)))
+      (λ n. rw (n, kept-in-base d′ n))
+  pairs-effect (Mapd d′ bits false) clean ok d e =
+      cases (isStrict (u .config .profile))
+      (λ s. rw (s, without d′ d e) (cases (sameDevice d′ d) (λ z. rw z) (λ z. rw z)))
+      (λ n. rw (n, without d′ d e) (cases (sameDevice d′ d) (λ z. rw z) (λ z. rw z)))
+  pairs-effect (Mapc c p true) clean ok d e = refl
+  pairs-effect (Mapc c p false) clean ok d e =
       rw (look-drop (pairIn c (u .translations)) (isPair d e) noTranslation refl (u .translations) (liesIn c (translationOf u d e)) (drops-with c d e))
       (dropped c (translationOf u d e))
-  pairs-effect (Mapti d′ e′ l c) ok d e = mapped d′ e′ l c ok d e
-  pairs-effect (Mapi d′ e′ c) ok d e = mapped d′ e′ (eventAsLpi e′) c ok d e
-  pairs-effect (Movi d′ e′ c) ok d e =
+  pairs-effect (Mapti d′ e′ l c) clean ok d e = mapped d′ e′ l c (own u (Mapti d′ e′ l c) ok) d e
+  pairs-effect (Mapi d′ e′ c) clean ok d e = mapped d′ e′ (eventAsLpi e′) c (own u (Mapi d′ e′ c) ok) d e
+  pairs-effect (Movi d′ e′ c) clean ok d e =
       let (r, q) = moved d′ e′ c ok in
       rw (q, stored d′ e′ (r .lpi) c (mapped-room d′ e′ q) d e)
       (cases (samePair d′ e′ d e) (λ s. rw (s, mapped-entry d′ e′ d e q s)) (λ s. rw s))
-  pairs-effect (Int d′ e′) ok d e = refl
-  pairs-effect (Clear d′ e′) ok d e = refl
-  pairs-effect (Discard d′ e′) ok d e =
+  pairs-effect (Int d′ e′) clean ok d e = refl
+  pairs-effect (Clear d′ e′) clean ok d e = refl
+  pairs-effect (Discard d′ e′) clean ok d e =
       rw (look-drop (isPair d′ e′) (isPair d e) noTranslation refl (u .translations) (samePair d′ e′ d e) (pair-drops d e d′ e′))
       (cases (samePair d′ e′ d e) (λ s. rw s) (λ s. rw s))
-  pairs-effect (Inv d′ e′) ok d e = refl
-  pairs-effect (Invall c) ok d e = refl
-  pairs-effect Sync ok d e = refl
+  pairs-effect (Inv d′ e′) clean ok d e = refl
+  pairs-effect (Invall c) clean ok d e = refl
+  pairs-effect Sync clean ok d e = refl
 
 -- a command changes neither the configuration nor the registers
 pub rest-effect : (u : ItsState) (x : Command) → accepts u x ≡ true → (effect u x .config ≡ u .config) × (effect u x .registers ≡ u .registers)
 unfolding storeDevice storeCollection storeTranslation dropDevice dropCollection dropPair movePair
-rest-effect u (Mapd d bits true) ok = (refl, refl)
+rest-effect u (Mapd d bits true) ok = (cleared-config u d, cleared-registers u d)
 rest-effect u (Mapd d bits false) ok = (refl, refl)
 rest-effect u (Mapc c p true) ok = (refl, refl)
 rest-effect u (Mapc c p false) ok = (refl, refl)

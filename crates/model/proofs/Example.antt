@@ -1,7 +1,7 @@
--- 01's example, its last corner, and what a refused write hands over (02, A2), computed from the definitions: their bytes give their lines.
+-- 01's example, its last corner, what a refused write hands over (02, A2), and the strict profile (02, A3), computed from the definitions: their bytes give their lines.
 -- Assumes nothing.
 use mathlib.Core.Path.{_≡_, refl}
-use Rattle.model.specs.Example.{exampleTrace, exampleLines, cornerTrace, cornerLines, handedTrace, handedLines}
+use Rattle.model.specs.Example.{exampleTrace, exampleLines, cornerTrace, cornerLines, handedTrace, handedLines, strictTrace, strictLines}
 use Rattle.model.proofs.Computed.{shown}
 
 pub example : shown exampleTrace ≡ exampleLines
@@ -15,3 +15,7 @@ opcode-0e = refl
 pub handed-before : shown handedTrace ≡ handedLines
 unfolding shown exampleTrace exampleLines handedTrace handedLines
 handed-before = refl
+
+pub strict-example : shown strictTrace ≡ strictLines
+unfolding shown strictTrace strictLines
+strict-example = refl

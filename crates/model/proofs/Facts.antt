@@ -9,12 +9,13 @@ use Rattle.model.specs.declared.ItsDeviceId.{ItsDeviceId}
 use Rattle.model.specs.declared.EventId.{EventId}
 use Rattle.model.specs.declared.CollectionId.{CollectionId}
 use Rattle.model.specs.declared.Command.{Command}
-use Rattle.model.specs.declared.Command.the-variants.{Mapc, Movi, Discard}
+use Rattle.model.specs.declared.Command.the-variants.{Mapd, Mapc, Movi, Discard}
+use Rattle.model.specs.Profile.{base, strict}
 use Rattle.model.specs.History.{partIn, pairNow}
 use Rattle.model.specs.Text.{ascii}
 use Rattle.model.specs.Trace.{fitting, outputAfter, returned}
 use Rattle.model.specs.Example.{exampleTrace}
-use Rattle.model.specs.Corners.{mapc, exampleMet, given}
+use Rattle.model.specs.Corners.{mapd, mapc, exampleMet, given}
 use Rattle.model.proofs.Computed.{shown}
 
 abbrev dev : ItsDeviceId
@@ -47,9 +48,25 @@ unfolding shown
 moved-is-ended = refl
 
 -- a DISCARD ends it, in the history
-pub discard-ends : pairNow dev ev (Discard dev ev ∷ exampleMet) ≡ none
+pub discard-ends : pairNow base dev ev (Discard dev ev ∷ exampleMet) ≡ none
 unfolding partIn
 discard-ends = refl
+
+-- a valid MAPD ends the pairs of its device in strict, those of no other device, and none in base
+abbrev dev6 : ItsDeviceId
+dev6 = record { 0 = 6 }
+
+pub mapd-ends-strict : pairNow strict dev ev (mapd 4 ∷ exampleMet) ≡ none
+unfolding partIn
+mapd-ends-strict = refl
+
+pub another-stays : pairNow strict dev ev (Mapd dev6 4 true ∷ exampleMet) ≡ pairNow strict dev ev exampleMet
+unfolding partIn
+another-stays = refl
+
+pub base-stays : pairNow base dev ev (mapd 4 ∷ exampleMet) ≡ pairNow base dev ev exampleMet
+unfolding partIn
+base-stays = refl
 
 -- A full output is judged line by line. Of the example's lines `CF 0` and `GM 0` fit into 22 bytes, the WR line of 13 does not, and nothing after
 -- it is written; the call returns 16 times 10, plus 11, and leaves the other bytes

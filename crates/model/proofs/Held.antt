@@ -26,6 +26,7 @@ use Rattle.model.specs.declared.RegisterWrite.{RegisterWrite}
 use Rattle.model.specs.declared.TranslateAnswer.{TranslateAnswer}
 use Rattle.model.specs.declared.TranslateAnswer.the-variants.{Delivered, NotDelivered}
 use Rattle.model.specs.Choose.{_or_then_, ifFound}
+use Rattle.model.specs.Profile.{profileOf}
 use Rattle.model.specs.Keys.{delivery}
 use Rattle.model.specs.Refusal.{writeNumbers}
 use Rattle.model.specs.With.{withRegisters}
@@ -122,14 +123,14 @@ module _ {k : ItsConfig} {u : ItsState} {h : List Command} (m : Held k u h) wher
   promised = subst (λ c. Promise c u h) (m .config) (promise u h (m .agrees) (rw (m .config) (m .backing)))
 
   -- a pair translates exactly where the commands of the history send it, and to what they give
-  pub translates : (d : ItsDeviceId) (e : EventId) (l : LpiId) (p : GicVcpuId) → (translate u d e ≡ Delivered (delivery l p)) ↔ SentTo h d e l p
+  pub translates : (d : ItsDeviceId) (e : EventId) (l : LpiId) (p : GicVcpuId) → (translate u d e ≡ Delivered (delivery l p)) ↔ SentTo (profileOf k) h d e l p
   translates d e l p = (
     λ q. promised .sent d e l p .1 (found-is (deliveryIn u d e) (delivery l p) .0 (sym (translation d e) ∙ q)),
     λ s. translation d e ∙ found-is (deliveryIn u d e) (delivery l p) .1 (promised .sent d e l p .0 s),
   )
 
   -- it is answered with 8 exactly where the pair is not in force
-  pub nowhere : (d : ItsDeviceId) (e : EventId) → (translate u d e ≡ NotDelivered ResourceNotFound) ↔ ((l : LpiId) (c : CollectionId) → InForce h d e l c → ⊥)
+  pub nowhere : (d : ItsDeviceId) (e : EventId) → (translate u d e ≡ NotDelivered ResourceNotFound) ↔ ((l : LpiId) (c : CollectionId) → InForce (profileOf k) h d e l c → ⊥)
   nowhere d e = (
     λ q. promised .nowhere d e .1 (missing-is (deliveryIn u d e) .0 (sym (translation d e) ∙ q)),
     λ n. translation d e ∙ missing-is (deliveryIn u d e) .1 (promised .nowhere d e .0 n),

@@ -15,6 +15,8 @@ pub mod LastLaws
 pub mod Mapped
 pub mod Paragraph
 pub mod Promised
+pub mod Profiles
+pub mod Alike
 pub mod ArmFacts
 pub mod Facts
 pub mod Ring

@@ -1,4 +1,4 @@
--- Document 02, A1: a number names one refusal, and folded it is 01's.
+-- Document 02, A1 and A3: a number names one refusal, and folded it is 01's.
 -- Assumes nothing.
 use Prim.Native.Nat.{ℕ, _≤_}
 use borrow.Author.Tests.{leb-true}
@@ -10,13 +10,13 @@ use mathlib.Core.Logic.{_⊎_, inl, inr}
 use lib.Dec.{leb, eqb}
 use Rattle.model.specs.declared.Refusal.{Refusal}
 use Rattle.model.specs.declared.Refusal.the-variants.{Unsound, RowTooShort, InvalidAccess, Identification, BaseZero, WriterRefused, BudgetExceeded, NotInWindow}
-use Rattle.model.specs.declared.Refusal.the-variants.{OpcodeUnknown, LpiOutOfRange, DeviceUnmapped, EventBeyondBits, CollectionUnmapped, PairUnmapped, ProcessorUnlisted, ResourceNotFound, TableFull, LineDoesNotFit}
+use Rattle.model.specs.declared.Refusal.the-variants.{OpcodeUnknown, LpiOutOfRange, DeviceUnmapped, EventBeyondBits, CollectionUnmapped, PairUnmapped, ProcessorUnlisted, DeviceTooLarge, ResourceNotFound, TableFull, LineDoesNotFit}
 use Rattle.model.specs.Choose.{if_then_else_, isFound}
 use Rattle.model.specs.Refusal.{numberOf, reasons, numberIn01, folded}
 use Rattle.model.proofs.Cases.{cases, never, and-left, and-right}
 
--- A1's seven reasons in its order have the numbers 20 to 26, and 7 is CWRITER's
-pub numbered : (map numberOf reasons ≡ 20 ∷ 21 ∷ 22 ∷ 23 ∷ 24 ∷ 25 ∷ 26 ∷ []) × (numberOf WriterRefused ≡ 7)
+-- A1's seven reasons in its order and A3's have the numbers 20 to 27, and 7 is CWRITER's
+pub numbered : (map numberOf reasons ≡ 20 ∷ 21 ∷ 22 ∷ 23 ∷ 24 ∷ 25 ∷ 26 ∷ 27 ∷ []) × (numberOf WriterRefused ≡ 7)
 numbered = (refl, refl)
 
 -- folded, each refusal has 01's number
@@ -37,15 +37,16 @@ folds EventBeyondBits = refl
 folds CollectionUnmapped = refl
 folds PairUnmapped = refl
 folds ProcessorUnlisted = refl
+folds DeviceTooLarge = refl
 folds ResourceNotFound = refl
 folds TableFull = refl
 folds LineDoesNotFit = refl
 
--- folding changes 20 to 26, to 7, and no other number
-pub folded-only : (n : ℕ) → (folded n ≡ n) ⊎ ((20 ≤ n) × ((n ≤ 26) × (folded n ≡ 7)))
+-- folding changes 20 to 27, to 7, and no other number
+pub folded-only : (n : ℕ) → (folded n ≡ n) ⊎ ((20 ≤ n) × ((n ≤ 27) × (folded n ≡ 7)))
 unfolding folded
 folded-only n =
-    cases (leb 20 n && leb n 26)
+    cases (leb 20 n && leb n 27)
     (λ h. inr (leb-true _ _ (and-left _ _ h), (leb-true _ _ (and-right (leb 20 n) _ h), rw h refl)))
     (λ h. inl (rw h refl))
 
@@ -70,6 +71,7 @@ named n =
     if eqb n 24 then some CollectionUnmapped else
     if eqb n 25 then some PairUnmapped else
     if eqb n 26 then some ProcessorUnlisted else
+    if eqb n 27 then some DeviceTooLarge else
     none
 
 names : (why : Refusal) → named (numberOf why) ≡ some why
@@ -89,6 +91,7 @@ names EventBeyondBits = refl
 names CollectionUnmapped = refl
 names PairUnmapped = refl
 names ProcessorUnlisted = refl
+names DeviceTooLarge = refl
 names ResourceNotFound = refl
 names TableFull = refl
 names LineDoesNotFit = refl

@@ -7,7 +7,7 @@ use mathlib.Core.List.{List}
 use mathlib.Core.Option.{Option, none, some}
 use mathlib.Core.Logic.{_↔_}
 use lib.Dec.{leb}
-use borrow.Author.Tests.{leb-true}
+use borrow.Author.Tests.{leb-true, ltb-true}
 use Rattle.model.specs.declared.ItsDeviceId.{ItsDeviceId}
 use Rattle.model.specs.declared.EventId.{EventId}
 use Rattle.model.specs.declared.CollectionId.{CollectionId}
@@ -21,11 +21,12 @@ use Rattle.model.specs.declared.Delivery.{Delivery}
 use Rattle.model.specs.declared.Command.{Command}
 use Rattle.model.specs.Choose.{whenFound}
 use Rattle.model.specs.Arm.{LPI-base}
+use Rattle.model.specs.Profile.{Profile, isStrict, profileOf}
 use Rattle.model.specs.Keys.{delivery}
-use Rattle.model.specs.Step.{collectionOf, translationOf, deliveryIn, lpiInRange}
+use Rattle.model.specs.Step.{collectionOf, translationOf, deliveryIn, lpiInRange, eventBelow}
 use Rattle.model.specs.History.{deviceNow, collectionNow, processorNow, PairEntry, anEntry, pairNow, deliveryOf}
 use Rattle.model.specs.Paragraph.{InForce}
-use Rattle.model.specs.Promise.{SentTo, Backed}
+use Rattle.model.specs.Promise.{SentTo, Backed, BelowCapacity}
 use Rattle.model.proofs.Cases.{never, and-left, and-right, found}
 use Rattle.model.proofs.Effects.{targetIn, entryOf, entryIn}
 use Rattle.model.proofs.Agreement.{Agrees}
@@ -36,10 +37,12 @@ use Rattle.model.proofs.Paragraph.{in-force}
 -- what is promised of the unit u, configured with k, and of the history h
 pub record Promise (k : ItsConfig) (u : ItsState) (h : List Command) : Type 0 where
   -- a pair in force translates to what the commands give, and whatever translates is in force
-  pub sent : (d : ItsDeviceId) (e : EventId) (l : LpiId) (p : GicVcpuId) → SentTo h d e l p ↔ (deliveryIn u d e ≡ some (delivery l p))
+  pub sent : (d : ItsDeviceId) (e : EventId) (l : LpiId) (p : GicVcpuId) → SentTo (profileOf k) h d e l p ↔ (deliveryIn u d e ≡ some (delivery l p))
   -- a pair that is not in force does not translate, and whatever does not translate is not in force
-  pub nowhere : (d : ItsDeviceId) (e : EventId) → ((l : LpiId) (c : CollectionId) → InForce h d e l c → ⊥) ↔ (deliveryIn u d e ≡ none)
-  pub backed : (d : ItsDeviceId) (e : EventId) (l : LpiId) (c : CollectionId) → InForce h d e l c → Backed k h d l c
+  pub nowhere : (d : ItsDeviceId) (e : EventId) → ((l : LpiId) (c : CollectionId) → InForce (profileOf k) h d e l c → ⊥) ↔ (deliveryIn u d e ≡ none)
+  pub backed : (d : ItsDeviceId) (e : EventId) (l : LpiId) (c : CollectionId) → InForce (profileOf k) h d e l c → Backed k h d l c
+  -- in strict it lies below its device's capacity
+  pub below : isStrict (k .profile) ≡ true → (d : ItsDeviceId) (e : EventId) (l : LpiId) (c : CollectionId) → InForce (profileOf k) h d e l c → BelowCapacity h d e
 
 -- a message's way in the unit, in terms of what the unit says of pairs and of collections
 module _ (u : ItsState) where
@@ -60,16 +63,19 @@ module _ (u : ItsState) where
   way d e = to-entry (translationOf u d e)
 
 module _ (u : ItsState) (h : List Command) (agrees : Agrees h u) (sound : Sound (u .config) h) where
+  abbrev f : Profile
+  f = profileOf (u .config)
+
   -- the collection of a pair in force is mapped; its processor is that of the last MAPC, which is the last valid one
-  backing : (d : ItsDeviceId) (e : EventId) (x : PairEntry) → pairNow d e h ≡ some x → (p : GicVcpuId) × (collectionNow (x .collection) h ≡ some p)
+  backing : (d : ItsDeviceId) (e : EventId) (x : PairEntry) → pairNow f d e h ≡ some x → (p : GicVcpuId) × (collectionNow (x .collection) h ≡ some p)
   backing d e x q = found (collectionNow (x .collection) h) (sound .behind d e x q .collection)
 
   -- the unit sends a message of the pair where the history does
-  pub delivers : (d : ItsDeviceId) (e : EventId) → deliveryIn u d e ≡ deliveryOf h d e
+  pub delivers : (d : ItsDeviceId) (e : EventId) → deliveryIn u d e ≡ deliveryOf f h d e
   unfolding deliveryOf
-  delivers d e = way u d e ∙ rw (agrees .pairs d e) (go (pairNow d e h) refl)
+  delivers d e = way u d e ∙ rw (agrees .pairs d e) (go (pairNow f d e h) refl)
     where
-      go : (o : Option PairEntry) → pairNow d e h ≡ o →
+      go : (o : Option PairEntry) → pairNow f d e h ≡ o →
           whenFound o (λ x. whenFound (targetIn u (x .collection)) (λ p. some (delivery (x .lpi) p)))
           ≡ whenFound o (λ x. whenFound (processorNow (x .collection) h) (λ p. some (delivery (x .lpi) p)))
       go none q = refl
@@ -78,17 +84,17 @@ module _ (u : ItsState) (h : List Command) (agrees : Agrees h u) (sound : Sound 
           rw (agrees .collections (x .collection), m, mapped-processor (x .collection) h p m)
 
   -- what the commands give, computed and in the paragraph's words
-  gives : (d : ItsDeviceId) (e : EventId) (l : LpiId) (p : GicVcpuId) → SentTo h d e l p → deliveryOf h d e ≡ some (delivery l p)
+  gives : (d : ItsDeviceId) (e : EventId) (l : LpiId) (p : GicVcpuId) → SentTo f h d e l p → deliveryOf f h d e ≡ some (delivery l p)
   unfolding deliveryOf
   gives d e l p s =
-      rw (in-force d e h l (s .collection) .0 (s .in-force), processor-of (s .collection) h p .0 (s .processor))
+      rw (in-force f d e h l (s .collection) .0 (s .in-force), processor-of (s .collection) h p .0 (s .processor))
 
-  given : (d : ItsDeviceId) (e : EventId) (l : LpiId) (p : GicVcpuId) → deliveryOf h d e ≡ some (delivery l p) → SentTo h d e l p
+  given : (d : ItsDeviceId) (e : EventId) (l : LpiId) (p : GicVcpuId) → deliveryOf f h d e ≡ some (delivery l p) → SentTo f h d e l p
   unfolding deliveryOf
-  given d e l p q = go (pairNow d e h) refl q
+  given d e l p q = go (pairNow f d e h) refl q
     where
-      at-processor : (x : PairEntry) → pairNow d e h ≡ some x → (o : Option GicVcpuId) → processorNow (x .collection) h ≡ o →
-          whenFound o (λ p. some (delivery (x .lpi) p)) ≡ some (delivery l p) → SentTo h d e l p
+      at-processor : (x : PairEntry) → pairNow f d e h ≡ some x → (o : Option GicVcpuId) → processorNow (x .collection) h ≡ o →
+          whenFound o (λ p. some (delivery (x .lpi) p)) ≡ some (delivery l p) → SentTo f h d e l p
       at-processor x n none m r = never true refl (cc)
       at-processor x n (some p′) m r =
           let same : delivery (x .lpi) p′ ≡ delivery l p = cc in
@@ -96,31 +102,31 @@ module _ (u : ItsState) (h : List Command) (agrees : Agrees h u) (sound : Sound 
           let sp : p′ ≡ p = ap (λ a. a .target) same in
           record {
             collection = x .collection;
-            in-force = in-force d e h l (x .collection) .1 (n ∙ ap (λ z. some (anEntry z (x .collection))) sl);
+            in-force = in-force f d e h l (x .collection) .1 (n ∙ ap (λ z. some (anEntry z (x .collection))) sl);
             processor = processor-of (x .collection) h p .1 (m ∙ ap some sp);
           }
 
-      go : (o : Option PairEntry) → pairNow d e h ≡ o →
-          whenFound o (λ x. whenFound (processorNow (x .collection) h) (λ p. some (delivery (x .lpi) p))) ≡ some (delivery l p) → SentTo h d e l p
+      go : (o : Option PairEntry) → pairNow f d e h ≡ o →
+          whenFound o (λ x. whenFound (processorNow (x .collection) h) (λ p. some (delivery (x .lpi) p))) ≡ some (delivery l p) → SentTo f h d e l p
       go none n r = never true refl (cc)
       go (some x) n r = at-processor x n (processorNow (x .collection) h) refl r
 
   -- a pair in force is sent somewhere
-  sent-somewhere : (d : ItsDeviceId) (e : EventId) (l : LpiId) (c : CollectionId) → InForce h d e l c → (p : GicVcpuId) × SentTo h d e l p
-  sent-somewhere d e l c f =
-      let (p, m) = backing d e (anEntry l c) (in-force d e h l c .0 f) in
-      (p, record { collection = c; in-force = f; processor = processor-of c h p .1 (mapped-processor c h p m) })
+  sent-somewhere : (d : ItsDeviceId) (e : EventId) (l : LpiId) (c : CollectionId) → InForce f h d e l c → (p : GicVcpuId) × SentTo f h d e l p
+  sent-somewhere d e l c i =
+      let (p, m) = backing d e (anEntry l c) (in-force f d e h l c .0 i) in
+      (p, record { collection = c; in-force = i; processor = processor-of c h p .1 (mapped-processor c h p m) })
 
-  not-given : (d : ItsDeviceId) (e : EventId) → ((l : LpiId) (c : CollectionId) → InForce h d e l c → ⊥) → deliveryOf h d e ≡ none
+  not-given : (d : ItsDeviceId) (e : EventId) → ((l : LpiId) (c : CollectionId) → InForce f h d e l c → ⊥) → deliveryOf f h d e ≡ none
   unfolding deliveryOf
-  not-given d e n = go (pairNow d e h) refl
+  not-given d e n = go (pairNow f d e h) refl
     where
-      go : (o : Option PairEntry) → pairNow d e h ≡ o → whenFound o (λ x. whenFound (processorNow (x .collection) h) (λ p. some (delivery (x .lpi) p))) ≡ none
+      go : (o : Option PairEntry) → pairNow f d e h ≡ o → whenFound o (λ x. whenFound (processorNow (x .collection) h) (λ p. some (delivery (x .lpi) p))) ≡ none
       go none q = refl
-      go (some x) q = absurd (n (x .lpi) (x .collection) (in-force d e h (x .lpi) (x .collection) .1 q))
+      go (some x) q = absurd (n (x .lpi) (x .collection) (in-force f d e h (x .lpi) (x .collection) .1 q))
 
   pub promise : Promise (u .config) u h
-  unfolding lpiInRange
+  unfolding lpiInRange eventBelow
   promise =
       record {
         sent = λ d e l p. (
@@ -129,13 +135,13 @@ module _ (u : ItsState) (h : List Command) (agrees : Agrees h u) (sound : Sound 
         );
         nowhere = λ d e. (
           λ n. delivers d e ∙ not-given d e n,
-          λ q l c f.
-              let (p, s) = sent-somewhere d e l c f in
+          λ q l c i.
+              let (p, s) = sent-somewhere d e l c i in
               let z : _≡_ {A = Option Delivery} none (some (delivery l p)) = sym q ∙ (delivers d e ∙ gives d e l p s) in
               never true refl (cc),
         );
-        backed = λ d e l c f.
-            let q = in-force d e h l c .0 f in
+        backed = λ d e l c i.
+            let q = in-force f d e h l c .0 i in
             let b = sound .behind d e (anEntry l c) q in
             let (bits, m) = found (deviceNow d h) (b .device) in
             let (p, k) = backing d e (anEntry l c) q in
@@ -149,4 +155,6 @@ module _ (u : ItsState) (h : List Command) (agrees : Agrees h u) (sound : Sound 
               processor-of = processor-of c h p .1 (mapped-processor c h p k);
               processor-listed = sound .processors c p k;
             };
+        below = λ s d e l c i bits m.
+            ltb-true _ _ (sound .below s d e (anEntry l c) (in-force f d e h l c .0 i) bits (device-mapped d h bits .0 m));
       }

@@ -16,7 +16,7 @@ use Rattle.model.specs.declared.Command.the-variants.{Mapd, Mapc, Mapti,
 use Rattle.model.specs.declared.Decoded.{Decoded}
 use Rattle.model.specs.declared.Decoded.the-variants.{Known, Unknown}
 use Rattle.model.specs.declared.Refusal.{Refusal}
-use Rattle.model.specs.declared.Refusal.the-variants.{NotInWindow, LpiOutOfRange, DeviceUnmapped, EventBeyondBits, CollectionUnmapped, PairUnmapped, ProcessorUnlisted, ResourceNotFound, TableFull}
+use Rattle.model.specs.declared.Refusal.the-variants.{NotInWindow, LpiOutOfRange, DeviceUnmapped, EventBeyondBits, CollectionUnmapped, PairUnmapped, ProcessorUnlisted, DeviceTooLarge, ResourceNotFound, TableFull}
 use Rattle.model.specs.declared.Verdict.{Verdict}
 use Rattle.model.specs.declared.Verdict.the-variants.{Accepted, Refused}
 use Rattle.model.specs.Choose.{_or_then_, ifFound}
@@ -24,7 +24,7 @@ use Rattle.model.specs.Refusal.{verdictNumber}
 use Rattle.model.specs.Keys.{eventAsLpi}
 use Rattle.model.specs.Config.{listed}
 use Rattle.model.specs.Decode.{opcodeOf, decode}
-use Rattle.model.specs.Step.{lpiInRange, deviceMapped, eventFits, collectionMapped, pairMapped, pairTranslates, roomForDevice, roomForCollection, roomForPair, checkMapping, check}
+use Rattle.model.specs.Step.{lpiInRange, deviceMapped, eventFits, collectionMapped, pairMapped, pairTranslates, roomForDevice, roomForCollection, roomForPair, checkMapping, checkIn01, namesTooLarge, check}
 use Rattle.model.specs.Queue.{Window, commandAt, commandAddress, Turn, passes, stays, judged, turnOn, turn}
 
 -- the number is neither 1 nor 5
@@ -46,22 +46,25 @@ module _ (u : ItsState) where
       (check-apart (collectionMapped u c) CollectionUnmapped _ refl
       (check-apart (roomForPair u d e) TableFull _ refl refl))))
 
-  command-apart : (x : Command) → apart (check u x) ≡ true
-  command-apart (Mapd d bits true) = check-apart (roomForDevice u d) TableFull _ refl refl
-  command-apart (Mapd d bits false) = refl
-  command-apart (Mapc c p true) =
+  in-01-apart : (x : Command) → apart (checkIn01 u x) ≡ true
+  in-01-apart (Mapd d bits true) = check-apart (roomForDevice u d) TableFull _ refl refl
+  in-01-apart (Mapd d bits false) = refl
+  in-01-apart (Mapc c p true) =
       check-apart (listed (u .config) p) ProcessorUnlisted _ refl (check-apart (roomForCollection u c) TableFull _ refl refl)
-  command-apart (Mapc c p false) = refl
-  command-apart (Mapti d e l c) = mapping-apart d e l c
-  command-apart (Mapi d e c) = mapping-apart d e (eventAsLpi e) c
-  command-apart (Movi d e c) =
+  in-01-apart (Mapc c p false) = refl
+  in-01-apart (Mapti d e l c) = mapping-apart d e l c
+  in-01-apart (Mapi d e c) = mapping-apart d e (eventAsLpi e) c
+  in-01-apart (Movi d e c) =
       check-apart (collectionMapped u c) CollectionUnmapped _ refl (check-apart (pairMapped u d e) PairUnmapped _ refl refl)
-  command-apart (Int d e) = check-apart (pairTranslates u d e) ResourceNotFound _ refl refl
-  command-apart (Clear d e) = check-apart (pairTranslates u d e) ResourceNotFound _ refl refl
-  command-apart (Discard d e) = check-apart (pairMapped u d e) PairUnmapped _ refl refl
-  command-apart (Inv d e) = check-apart (pairMapped u d e) PairUnmapped _ refl refl
-  command-apart (Invall c) = check-apart (collectionMapped u c) CollectionUnmapped _ refl refl
-  command-apart Sync = refl
+  in-01-apart (Int d e) = check-apart (pairTranslates u d e) ResourceNotFound _ refl refl
+  in-01-apart (Clear d e) = check-apart (pairTranslates u d e) ResourceNotFound _ refl refl
+  in-01-apart (Discard d e) = check-apart (pairMapped u d e) PairUnmapped _ refl refl
+  in-01-apart (Inv d e) = check-apart (pairMapped u d e) PairUnmapped _ refl refl
+  in-01-apart (Invall c) = check-apart (collectionMapped u c) CollectionUnmapped _ refl refl
+  in-01-apart Sync = refl
+
+  command-apart : (x : Command) → apart (check u x) ≡ true
+  command-apart x = check-apart (not (namesTooLarge (u .config) x)) DeviceTooLarge (checkIn01 u x) refl (in-01-apart x)
 
   abbrev Stays : Turn → Type 0
   Stays (passes x) = Unit {0}

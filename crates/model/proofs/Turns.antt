@@ -41,7 +41,7 @@ module _ (u : ItsState) (x : Command) where
   on-decoded (Known y) opcode h = on-verdict (check u y) y opcode refl h
   on-decoded (Unknown n) opcode h = never true refl (cc)
 
-  on-words : (o : Option (List ℕ)) → ifFound o (λ ws. turnOn u (opcodeOf ws) (decode ws)) (stays NotInWindow 0) ≡ passes x → Passes (whenFound o (λ ws. ifKnown (decode ws)))
+  pub on-words : (o : Option (List ℕ)) → ifFound o (λ ws. turnOn u (opcodeOf ws) (decode ws)) (stays NotInWindow 0) ≡ passes x → Passes (whenFound o (λ ws. ifKnown (decode ws)))
   on-words none h = never true refl (cc)
   on-words (some ws) h = on-decoded (decode ws) (opcodeOf ws) h
 

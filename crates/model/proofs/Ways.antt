@@ -25,7 +25,7 @@ use Rattle.model.specs.Choose.{if_then_else_, _or_then_}
 use Rattle.model.specs.Refusal.{writeNumbers}
 use Rattle.model.specs.With.{withRegisters, withEnabled, withWriter}
 use Rattle.model.specs.Config.{queueBase, soundConfig, soundRing, soundUnit}
-use Rattle.model.specs.Queue.{Window, waiting, Ran, run}
+use Rattle.model.specs.Queue.{Window, waiting, Ran, run, mayRun}
 use Rattle.model.specs.Register.{registerAt, valueWritten}
 use Rattle.model.specs.Access.{checkWrite, ifAccepted}
 use Rattle.model.specs.Writing.{refusing, storing, rebasing, going, enables, toCtlr, withCbaser, toCbaser, writerTaken, writerAccepted, toCwriter, withBaser, toBaser, writeRegister, registerWrite}
@@ -72,13 +72,13 @@ module _ (w : Window) (row : List ItsAction) (u : ItsState) (offset width value 
     quiet : (s : ItsRegisters) → Stored s → Way (storing s) (nothing-run (storing s))
     -- a new base, and nothing runs
     based : (s : ItsRegisters) → soundConfig (u .config) ≡ true → soundRing s ≡ true → s .creadr ≡ 0 → Way (rebasing s) (nothing-run (rebasing s))
-    -- let run, and disabled
-    off : (s : ItsRegisters) → Stored s → s .enabled ≡ false → Way (going s) (nothing-run (going s))
+    -- let run, and the queue may not: the unit is disabled, or in strict CBASER's bit 63 is clear
+    off : (s : ItsRegisters) → Stored s → mayRun (u .config) s ≡ false → Way (going s) (nothing-run (going s))
     -- more wait than the budget
-    over : (s : ItsRegisters) → Stored s → s .enabled ≡ true → u .config .«command_budget» < waiting s →
+    over : (s : ItsRegisters) → Stored s → mayRun (u .config) s ≡ true → u .config .«command_budget» < waiting s →
         Way (going s) (record { written = record { unit = withRegisters u s; answer = NotTaken BudgetExceeded 0 (s .creadr) 0 0 }; row = row })
     -- what waits is run
-    ran : (s : ItsRegisters) → Stored s → s .enabled ≡ true → waiting s ≤ u .config .«command_budget» →
+    ran : (s : ItsRegisters) → Stored s → mayRun (u .config) s ≡ true → waiting s ≤ u .config .«command_budget» →
         Way (going s) (afterRun (run w (waiting s) (withRegisters u s)) row)
 
   -- let run
@@ -86,7 +86,7 @@ module _ (w : Window) (row : List ItsAction) (u : ItsState) (offset width value 
   unfolding running
   let-run s g =
       let v = withRegisters u s in
-      cases (s .enabled)
+      cases (mayRun (u .config) s)
       (λ on. cases (leb (waiting s) (u .config .«command_budget»))
       (λ l. rw (queue-runs w v on l) (ran s g on (leb-true _ _ l)))
       (λ l. rw (queue-over w v on l) (over s g on (leb-false _ _ l))))
@@ -167,9 +167,9 @@ module _ (w : Window) (row : List ItsAction) (u : ItsState) (offset width value 
     pub unit : o .written .unit ≡ run w n (withRegisters u (s .registers)) .unit
     pub done : writeNumbers (o .written .answer) .done ≡ run w n (withRegisters u (s .registers)) .done
     pub row-left : o .row ≡ rowAfter (run w n (withRegisters u (s .registers)) .actions) row
-    -- nothing is run with a new base, nor in a disabled unit
+    -- nothing is run with a new base, nor where the queue may not run
     pub new-base : s .rebased ≡ true → n ≡ 0
-    pub disabled : s .registers .enabled ≡ false → n ≡ 0
+    pub may-not : mayRun (u .config) (s .registers) ≡ false → n ≡ 0
     -- where CREADR stands with the value stored: as before, or at 0 with a new base
     pub same-base : s .rebased ≡ false → s .registers .cbaser ≡ u .registers .cbaser
     pub same-reader : s .rebased ≡ false → s .registers .creadr ≡ u .registers .creadr
@@ -189,7 +189,7 @@ module _ (w : Window) (row : List ItsAction) (u : ItsState) (offset width value 
         done = d;
         row-left = l;
         new-base = λ b. refl;
-        disabled = λ e. refl;
+        may-not = λ e. refl;
         same-base = λ _. b;
         same-reader = λ _. c;
         new-reader = λ b. never true refl (sym b);
@@ -210,7 +210,7 @@ module _ (w : Window) (row : List ItsAction) (u : ItsState) (offset width value 
         done = refl;
         row-left = refl;
         new-base = λ b. refl;
-        disabled = λ e. refl;
+        may-not = λ e. refl;
         same-base = λ b. never true refl b;
         same-reader = λ b. never true refl b;
         new-reader = λ _. z;
@@ -228,7 +228,7 @@ module _ (w : Window) (row : List ItsAction) (u : ItsState) (offset width value 
         done = done-of q (q .stopped);
         row-left = refl;
         new-base = λ b. never true refl (sym b);
-        disabled = λ e. never (s .enabled) on e;
+        may-not = λ e. never (mayRun (u .config) s) on e;
         same-base = λ _. g .base;
         same-reader = λ _. g .reader;
         new-reader = λ b. never true refl (sym b);

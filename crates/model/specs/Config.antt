@@ -12,6 +12,7 @@ use Rattle.model.specs.declared.ItsState.{ItsState}
 use Rattle.model.specs.Choose.{if_then_else_, isFound}
 use Rattle.model.specs.Arm.{_of_, _in-place_, _holding_, CBASER·Physical-Address, CBASER·Size, BASER·Type, BASER·Entry-Size, of-devices, of-collections, page, command-size, LPI-base}
 use Rattle.model.specs.With.{aUnit, theRegisters, aConfig}
+use Rattle.model.specs.Profile.{isProfile}
 use Rattle.model.specs.Table.{look}
 use Rattle.model.specs.Keys.{sameProcessor, noDevice, noCollection, noTranslation}
 
@@ -28,14 +29,18 @@ abbrev pub noneTwice : List GicVcpuId → Bool
 noneTwice [] = true
 noneTwice (p ∷ ps) = not (isFound (look (sameProcessor p) ps)) && noneTwice ps
 
--- LPI limit 8,192 to 16,777,215. Budget 1 to 1,024 commands a write. Frame 65,536 or 131,072 bytes. 1 to 16 processors, none twice
-unfoldable pub soundConfig : ItsConfig → Bool
-soundConfig k =
+-- 01's sizes: LPI limit 8,192 to 16,777,215. Budget 1 to 1,024 commands a write. Frame 65,536 or 131,072 bytes. 1 to 16 processors, none twice
+unfoldable pub sizesIn01 : ItsConfig → Bool
+sizesIn01 k =
     (leb LPI-base (k .«lpi_limit») && leb (k .«lpi_limit») 16777215)
     && ((leb 1 (k .«command_budget») && leb (k .«command_budget») 1024)
     && ((eqb (k .«frame_size») 65536 || eqb (k .«frame_size») 131072)
     && ((leb 1 (k .«processor_count») && leb (k .«processor_count») 16)
     && noneTwice (processorsOf k))))
+
+-- and a profile that there is (02, A3)
+unfoldable pub soundConfig : ItsConfig → Bool
+soundConfig k = sizesIn01 k && isProfile (k .profile)
 
 -- The ring. CBASER base is bits 51:12, pages are bits 7:0 plus 1.
 abbrev pub queueBase : ℕ → ℕ
@@ -85,7 +90,7 @@ freshUnit k = aUnit k freshRegisters (replicate 32 noDevice) (replicate 32 noCol
 
 -- The configuration of a unit that has none: no size of it is allowed, so the unit answers 1 to everything.
 abbrev pub noConfig : ItsConfig
-noConfig = aConfig 0 0 0 0 (replicate 16 (record { 0 = 0 }))
+noConfig = aConfig 0 0 0 0 0 (replicate 16 (record { 0 = 0 }))
 
 -- a fresh unit with that configuration
 abbrev pub noUnit : ItsState

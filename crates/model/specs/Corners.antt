@@ -20,9 +20,13 @@ use Rattle.model.specs.Queue.{waiting}
 use Rattle.model.specs.Entry.{configure, read, write, translate}
 use Rattle.model.specs.Met.{unitAfter}
 
--- The configuration of 01's example, with any limit: budget 64, frame 65536, processors 0 and 1.
+-- The configuration of 01's example, with any limit and profile: budget 64, frame 65536, processors 0 and 1.
+abbrev pub configured : ℕ → ℕ → ItsConfig
+configured limit profile = aConfig limit 64 65536 profile 2 (record { 0 = 0 } ∷ record { 0 = 1 } ∷ replicate 14 (record { 0 = 0 }))
+
+-- in base
 abbrev pub withLimit : ℕ → ItsConfig
-withLimit limit = aConfig limit 64 65536 2 (record { 0 = 0 } ∷ record { 0 = 1 } ∷ replicate 14 (record { 0 = 0 }))
+withLimit limit = configured limit 0
 
 -- a fresh unit with that limit
 abbrev pub fresh : ℕ → ItsState

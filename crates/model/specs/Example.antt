@@ -1,7 +1,9 @@
--- Document 01, "The trace": the example, its records in bytes and the lines that it prints; 01's last corner; and what a refused write hands over (02, A2).
+-- Document 01, "The trace": the example, its records in bytes and the lines that it prints; 01's last corner; what a refused write hands over (02, A2); and
+-- the strict profile (02, A3).
 -- Assumes nothing.
 use Prim.Native.Nat.{ℕ, zero, suc, _/_, _%_}
 use mathlib.Core.List.{List, [], _∷_, _++_}
+use lib.ListN.{length}
 use Rattle.model.specs.Text.{ascii}
 
 -- n bytes of a number, little-endian
@@ -13,6 +15,14 @@ bytesOf (suc n) v = v % 256 ∷ bytesOf n (v / 256)
 abbrev pub words : List ℕ → List ℕ
 words [] = []
 words (w ∷ ws) = bytesOf 8 w ++ words ws
+
+-- the CF record of the example, in a profile
+abbrev pub CFs : ℕ → List ℕ
+CFs profile = (ascii "CF" ++ bytesOf 4 65535) ++ (bytesOf 4 64 ++ (bytesOf 4 65536 ++ (bytesOf 1 profile ++ (bytesOf 1 2 ++ (bytesOf 2 0 ++ bytesOf 2 1)))))
+
+-- a GM record
+abbrev pub GMs : ℕ → List ℕ → List ℕ
+GMs address ws = (ascii "GM" ++ bytesOf 8 address) ++ (bytesOf 4 (length ws) ++ ws)
 
 -- a WR record
 abbrev pub WRs : ℕ → ℕ → ℕ → List ℕ
@@ -36,12 +46,12 @@ exampleCommands =
     ∷ 0x500000003 ∷ 9 ∷ 0 ∷ 0
     ∷ [])
 
--- CF 65535, 64, 65536, processors 0 and 1. GM at 0x40000000, 128 bytes. WR 0x80 8 0x8000000040000000; RD 0x80 4; WR 0 4 1; WR 0x88 8 128;
+-- CF 65535, 64, 65536, base, processors 0 and 1. GM at 0x40000000, 128 bytes. WR 0x80 8 0x8000000040000000; RD 0x80 4; WR 0 4 1; WR 0x88 8 128;
 -- RD 0x90 8; TR 5 9; TR 5 8
 unfoldable pub exampleTrace : List ℕ
 exampleTrace =
-    ((ascii "CF" ++ bytesOf 4 65535) ++ (bytesOf 4 64 ++ (bytesOf 4 65536 ++ (bytesOf 1 2 ++ (bytesOf 2 0 ++ bytesOf 2 1)))))
-    ++ (((ascii "GM" ++ bytesOf 8 0x40000000) ++ (bytesOf 4 128 ++ exampleCommands))
+    CFs 0
+    ++ (GMs 0x40000000 exampleCommands
     ++ (WRs 0x80 8 0x8000000040000000
     ++ (RDs 0x80 4
     ++ (WRs 0 4 1
@@ -61,7 +71,7 @@ cornerCommands = words (0x500000003 ∷ 9 ∷ 0 ∷ 0 ∷ 0x0E ∷ 0 ∷ 0 ∷ 0
 
 -- after the example, writer 192
 unfoldable pub cornerTrace : List ℕ
-cornerTrace = exampleTrace ++ (((ascii "GM" ++ bytesOf 8 0x40000080) ++ (bytesOf 4 64 ++ cornerCommands)) ++ WRs 0x88 8 192)
+cornerTrace = exampleTrace ++ (GMs 0x40000080 cornerCommands ++ WRs 0x88 8 192)
 
 -- gives refusal 20 (02, A1, for 01's 7), opcode 14, offset 160, done 1, and the INT's action (02, A2, for 01's 0)
 unfoldable pub cornerLines : List ℕ
@@ -72,11 +82,46 @@ cornerLines = exampleLines ++ ascii "GM 0\nWR 20 14 160 1 1\nAC 1 8200 1\n"
 unfoldable pub handedTrace : List ℕ
 handedTrace =
     exampleTrace
-    ++ (((ascii "GM" ++ bytesOf 8 0x40000080)
-    ++ (bytesOf 4 96 ++ words (0x500000003 ∷ 9 ∷ 0 ∷ 0 ∷ 0x500000004 ∷ 9 ∷ 0 ∷ 0 ∷ 0x500000003 ∷ 8 ∷ 0 ∷ 0 ∷ [])))
+    ++ (GMs 0x40000080 (words (0x500000003 ∷ 9 ∷ 0 ∷ 0 ∷ 0x500000004 ∷ 9 ∷ 0 ∷ 0 ∷ 0x500000003 ∷ 8 ∷ 0 ∷ 0 ∷ []))
     ++ (WRs 0x88 8 224 ++ (WRs 0 4 1 ++ WRs 0x88 8 33)))
 
 -- the first write hands over the two actions made before the refused INT, and none of that one; the second hands over none of the first's; the third is
 -- refused before a run
 unfoldable pub handedLines : List ℕ
 handedLines = exampleLines ++ ascii "GM 0\nWR 8 3 192 2 2\nAC 1 8200 1\nAC 1 8200 0\nWR 8 3 192 0 0\nWR 7 0 33 0 0\n"
+
+-- 02, A3. The example in strict, with CBASER's bit 63 clear first: CTLR and CWRITER are stored, CREADR stays. Disabled, and with bit 63 set, the commands
+-- run. Then device 5 is mapped again, with commands that name no device though w0 63:32 is 65536: MAPC, INVALL, SYNC, and last the opcode 0E, which is
+-- unknown. The pair (5, 9) is gone, and an INT of device 65536 is too large
+unfoldable pub strictTrace : List ℕ
+strictTrace =
+    CFs 1
+    ++ (GMs 0x40000000 exampleCommands
+    ++ (WRs 0x80 8 0x40000000
+    ++ (WRs 0 4 1
+    ++ (WRs 0x88 8 128
+    ++ (RDs 0x90 8
+    ++ (RDs 0x88 8
+    ++ (WRs 0 4 0
+    ++ (WRs 0x80 8 0x8000000040000000
+    ++ (WRs 0 4 1
+    ++ (WRs 0x88 8 128
+    ++ (TRs 5 9
+    ++ (GMs 0x40000080
+    (words (
+    0x500000008 ∷ 3 ∷ 0x8000000000000000 ∷ 0
+    ∷ 0x1000000000009 ∷ 0 ∷ 0x8000000000010002 ∷ 0
+    ∷ 0x100000000000D ∷ 0 ∷ 2 ∷ 0
+    ∷ 0x1000000000005 ∷ 0 ∷ 0 ∷ 0
+    ∷ 0x100000000000E ∷ 0 ∷ 0 ∷ 0
+    ∷ []))
+    ++ (WRs 0x88 8 288
+    ++ (TRs 5 9
+    ++ (GMs 0x40000100 (words (0x1000000000003 ∷ 9 ∷ 0 ∷ 0 ∷ []))
+    ++ WRs 0 4 1)))))))))))))))
+
+-- the lines that it prints
+unfoldable pub strictLines : List ℕ
+strictLines =
+    ascii "CF 0\nGM 0\nWR 0 0 0 0 0\nWR 0 0 0 0 0\nWR 0 0 0 0 0\nRD 0 0\nRD 0 128\nWR 0 0 0 0 0\nWR 0 0 0 0 0\nWR 0 0 0 0 0\n"
+    ++ ascii "WR 0 0 0 4 1\nAC 1 8200 1\nTR 0 8200 1\nGM 0\nWR 20 14 256 4 0\nTR 8 0 0\nGM 0\nWR 27 3 256 0 0\n"

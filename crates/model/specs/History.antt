@@ -1,8 +1,8 @@
--- Document 01, "In force", command by command, over the commands carried out, without tables. A history lists the commands carried out, the
+-- Document 01, "In force", and document 02, A3, command by command, over the commands carried out, without tables. A history lists the commands carried out, the
 -- last one first: `x ∷ h` is h, and then x. Paragraph.antt says the same in the paragraph's own words.
 -- Assumes nothing.
 use Prim.Native.Nat.{ℕ}
-use mathlib.Core.Bool.{true, false}
+use mathlib.Core.Bool.{true, false, _&&_}
 use mathlib.Core.List.{List, [], _∷_}
 use mathlib.Core.Option.{Option, none, some}
 use Rattle.model.specs.declared.ItsDeviceId.{ItsDeviceId}
@@ -14,6 +14,7 @@ use Rattle.model.specs.declared.Delivery.{Delivery}
 use Rattle.model.specs.declared.Command.{Command}
 use Rattle.model.specs.declared.Command.the-variants.{Mapd, Mapc, Mapti, Mapi, Movi, Int, Clear, Discard, Inv, Invall, Sync}
 use Rattle.model.specs.Choose.{if_then_else_, whenFound}
+use Rattle.model.specs.Profile.{Profile, mapdEnds}
 use Rattle.model.specs.Keys.{delivery, eventAsLpi, sameDevice, sameCollection, samePair}
 
 -- What a command says of something that can be mapped.
@@ -90,7 +91,7 @@ pub data Part : Type 0 where
   maps : LpiId → CollectionId → Part
   -- a MOVI of it
   moves : CollectionId → Part
-  -- a DISCARD of it, or an invalid MAPD of its device
+  -- a DISCARD of it, or a MAPD of its device that ends its pairs: an invalid one, in strict any
   ends : Part
   -- an invalid MAPC, which ends it if the pair is in that collection at that moment
   endsIn : CollectionId → Part
@@ -98,20 +99,19 @@ pub data Part : Type 0 where
   leaves : Part
 
 -- what each command is to the pair
-unfoldable pub partIn : ItsDeviceId → EventId → Command → Part
-partIn d e (Mapd d′ bits true) = leaves
-partIn d e (Mapd d′ bits false) = if sameDevice d′ d then ends else leaves
-partIn d e (Mapc c p true) = leaves
-partIn d e (Mapc c p false) = endsIn c
-partIn d e (Mapti d′ e′ l c) = if samePair d′ e′ d e then maps l c else leaves
-partIn d e (Mapi d′ e′ c) = if samePair d′ e′ d e then maps (eventAsLpi e′) c else leaves
-partIn d e (Movi d′ e′ c) = if samePair d′ e′ d e then moves c else leaves
-partIn d e (Int d′ e′) = leaves
-partIn d e (Clear d′ e′) = leaves
-partIn d e (Discard d′ e′) = if samePair d′ e′ d e then ends else leaves
-partIn d e (Inv d′ e′) = leaves
-partIn d e (Invall c) = leaves
-partIn d e Sync = leaves
+unfoldable pub partIn : Profile → ItsDeviceId → EventId → Command → Part
+partIn f d e (Mapd d′ bits valid) = if mapdEnds f valid && sameDevice d′ d then ends else leaves
+partIn f d e (Mapc c p true) = leaves
+partIn f d e (Mapc c p false) = endsIn c
+partIn f d e (Mapti d′ e′ l c) = if samePair d′ e′ d e then maps l c else leaves
+partIn f d e (Mapi d′ e′ c) = if samePair d′ e′ d e then maps (eventAsLpi e′) c else leaves
+partIn f d e (Movi d′ e′ c) = if samePair d′ e′ d e then moves c else leaves
+partIn f d e (Int d′ e′) = leaves
+partIn f d e (Clear d′ e′) = leaves
+partIn f d e (Discard d′ e′) = if samePair d′ e′ d e then ends else leaves
+partIn f d e (Inv d′ e′) = leaves
+partIn f d e (Invall c) = leaves
+partIn f d e Sync = leaves
 
 -- what a pair in force has
 pub record PairEntry : Type 0 where
@@ -131,13 +131,13 @@ pairAfter (endsIn c) o = whenFound o (λ x. if sameCollection (x .collection) c 
 pairAfter leaves o = o
 
 -- what a pair in force has, and nothing of one that is not in force
-abbrev pub pairNow : ItsDeviceId → EventId → List Command → Option PairEntry
-pairNow d e [] = none
-pairNow d e (x ∷ h) = pairAfter (partIn d e x) (pairNow d e h)
+abbrev pub pairNow : Profile → ItsDeviceId → EventId → List Command → Option PairEntry
+pairNow f d e [] = none
+pairNow f d e (x ∷ h) = pairAfter (partIn f d e x) (pairNow f d e h)
 
 -- where a message of the pair goes: the LPI of its last MAPTI or MAPI, and the processor of its collection
-unfoldable pub deliveryOf : List Command → ItsDeviceId → EventId → Option Delivery
-deliveryOf h d e =
-    whenFound (pairNow d e h) (λ x.
+unfoldable pub deliveryOf : Profile → List Command → ItsDeviceId → EventId → Option Delivery
+deliveryOf f h d e =
+    whenFound (pairNow f d e h) (λ x.
     whenFound (processorNow (x .collection) h) (λ p.
     some (delivery (x .lpi) p)))

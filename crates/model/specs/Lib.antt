@@ -5,6 +5,7 @@ pub mod Refusal
 pub mod Table
 pub mod Keys
 pub mod With
+pub mod Profile
 pub mod Config
 pub mod Decode
 pub mod Step
@@ -13,11 +14,14 @@ pub mod Register
 pub mod Access
 pub mod Writing
 pub mod Entry
+pub mod In01
 pub mod History
 pub mod Paragraph
 pub mod Met
 pub mod Passed
+pub mod Common
 pub mod Promise
 pub mod Trace
 pub mod Example
 pub mod Corners
+pub mod Strict

@@ -1,4 +1,4 @@
--- Document 01, "In force", in the paragraph's own words: which commands stand where in the history. A history lists the commands carried out,
+-- Document 01, "In force", with what document 02, A3, adds to it, in the paragraph's own words: which commands stand where in the history. A history lists the commands carried out,
 -- the last one first, so in `later ++ x ∷ before` the commands of `later` came after x. proofs/Paragraph.antt shows that these say what
 -- History.antt computes.
 -- Assumes nothing.
@@ -14,6 +14,7 @@ use Rattle.model.specs.declared.LpiId.{LpiId}
 use Rattle.model.specs.declared.GicVcpuId.{GicVcpuId}
 use Rattle.model.specs.declared.Command.{Command}
 use Rattle.model.specs.declared.Command.the-variants.{Mapd, Mapc, Mapti, Mapi, Movi, Discard}
+use Rattle.model.specs.Profile.{Profile, base, strict}
 use Rattle.model.specs.Keys.{eventAsLpi}
 
 infix 50 _∈_
@@ -70,15 +71,20 @@ MoviOf d e x = (c : CollectionId) × (x ≡ Movi d e c)
 abbrev pub Names : ItsDeviceId → EventId → CollectionId → List Command → CollectionId → Type 0
 Names d e first later c = ((c ≡ first) × ((x : Command) → MoviOf d e x → x ∈ later → ⊥)) ⊎ Last (MoviOf d e) later (Movi d e c)
 
--- A pair is in force if it has a carried-out MAPTI or MAPI and, after the last of these, no DISCARD of it, no invalid MAPD of its device, no
--- invalid MAPC of the collection it named at that moment. Its LPI is that of this command, its collection that of this command or the last
--- later MOVI.
-pub record InForce (h : List Command) (d : ItsDeviceId) (e : EventId) (l : LpiId) (c : CollectionId) : Type 0 where
+-- A MAPD of its device that ends a pair is an invalid one. In strict, "in force" gains a valid MAPD of the device as an ending: there it is any.
+abbrev pub Ending : Profile → Bool → Type 0
+Ending base valid = valid ≡ false
+Ending strict valid = Unit {0}
+
+-- A pair is in force if it has a carried-out MAPTI or MAPI and, after the last of these, no DISCARD of it, no invalid MAPD of its device (in strict no
+-- MAPD of its device), no invalid MAPC of the collection it named at that moment. Its LPI is that of this command, its collection that of this
+-- command or the last later MOVI.
+pub record InForce (f : Profile) (h : List Command) (d : ItsDeviceId) (e : EventId) (l : LpiId) (c : CollectionId) : Type 0 where
   pub mapping : Command
   pub first : CollectionId
   pub maps : Maps d e l first mapping
   pub last : Last (MappingOf d e) h mapping
   pub no-discard : Discard d e ∈ last .later → ⊥
-  pub no-invalid-mapd : (bits : ℕ) → Mapd d bits false ∈ last .later → ⊥
+  pub no-ending-mapd : (bits : ℕ) (valid : Bool) → Ending f valid → Mapd d bits valid ∈ last .later → ⊥
   pub no-invalid-mapc : (c′ : CollectionId) (p : GicVcpuId) (after until : List Command) → last .later ≡ after ++ Mapc c′ p false ∷ until → Names d e first until c′ → ⊥
   pub collection : Names d e first (last .later) c

@@ -32,6 +32,10 @@ ifKnown (Unknown opcode) = none
 unfoldable pub commandOf : Window → ItsRegisters → ℕ → Option Command
 commandOf w r n = whenFound (commandAt w (commandAddress r (ringOffset r n))) (λ ws. ifKnown (decode ws))
 
+-- the command on which CREADR stands
+unfoldable pub commandHere : Window → ItsRegisters → Option Command
+commandHere w r = whenFound (commandAt w (commandAddress r (r .creadr))) (λ ws. ifKnown (decode ws))
+
 -- the first n commands from CREADR on, the last one first
 abbrev pub commandsPassed : Window → ItsRegisters → ℕ → List Command
 commandsPassed w r zero = []

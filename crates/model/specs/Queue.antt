@@ -1,11 +1,12 @@
--- Document 01: the guest window of "Sizes", the waiting commands of "Registers", and the queue's run of "Refusal numbers" and "Commands".
+-- Document 01, and 02, A3: the guest window of "Sizes", the waiting commands of "Registers", and the queue's run of "Refusal numbers" and "Commands".
 -- Assumes nothing.
 use Prim.Native.Nat.{ℕ, zero, suc, _+_, _-_, _*_, _/_, _%_, _^_, _<_}
-use mathlib.Core.Bool.{Bool, _&&_}
+use mathlib.Core.Bool.{Bool, _&&_, not}
 use mathlib.Core.List.{List, [], _∷_, _++_}
 use mathlib.Core.Option.{Option, none, some}
 use lib.ListN.{length, drop}
-use lib.Dec.{leb}
+use lib.Dec.{leb, eqb}
+use Rattle.model.specs.declared.ItsConfig.{ItsConfig}
 use Rattle.model.specs.declared.ItsRegisters.{ItsRegisters}
 use Rattle.model.specs.declared.ItsState.{ItsState}
 use Rattle.model.specs.declared.ItsAction.{ItsAction}
@@ -17,8 +18,9 @@ use Rattle.model.specs.declared.Refusal.the-variants.{BudgetExceeded, No
 use Rattle.model.specs.declared.Verdict.{Verdict}
 use Rattle.model.specs.declared.Verdict.the-variants.{Accepted, Refused}
 use Rattle.model.specs.Choose.{if_then_else_, _or_then_, ifFound}
-use Rattle.model.specs.Arm.{command-size}
+use Rattle.model.specs.Arm.{_of_, CBASER·Valid, command-size}
 use Rattle.model.specs.With.{withRegisters, withReader}
+use Rattle.model.specs.Profile.{isStrict}
 use Rattle.model.specs.Config.{queueBase, queueSize}
 use Rattle.model.specs.Decode.{opcodeOf, decode}
 use Rattle.model.specs.Step.{check, effect, actionsOf}
@@ -80,7 +82,7 @@ abbrev pub turnOn : ItsState → ℕ → Decoded → Turn
 turnOn u opcode (Known x) = judged (check u x) x opcode
 turnOn u opcode (Unknown n) = stays OpcodeUnknown opcode
 
--- each command in turn: 6, its own checks (20 to 26, or 8), 9 last
+-- each command in turn: 6, its own checks (20 to 27, or 8), 9 last
 unfoldable pub turn : Window → ItsState → Turn
 turn w u =
     ifFound (commandAt w (commandAddress (u .registers) (u .registers .creadr)))
@@ -130,10 +132,18 @@ abbrev pub run : Window → ℕ → ItsState → Ran
 run w zero u = ended u none
 run w (suc n) u = goOn u (turn w u) (run w n)
 
+-- in strict, a queue whose CBASER bit 63 is 0 runs nothing and gives no 5 (02, A3)
+unfoldable pub held : ItsConfig → ItsRegisters → Bool
+held k r = isStrict (k .profile) && eqb (CBASER·Valid of r .cbaser) 0
+
+-- the queue runs in an enabled unit, where it is not held
+unfoldable pub mayRun : ItsConfig → ItsRegisters → Bool
+mayRun k r = r .enabled && not (held k r)
+
 -- an enabled unit runs its queue: 5 is tested once, then each command in turn
 unfoldable pub runQueue : Window → ItsState → Ran
 runQueue w u =
-    if u .registers .enabled
+    if mayRun (u .config) (u .registers)
     then (leb (waiting (u .registers)) (u .config .«command_budget») or ended u (some (record { refusal = BudgetExceeded; opcode = 0 })) then
     run w (waiting (u .registers)) u)
     else ended u none

@@ -1,4 +1,4 @@
--- Document 01, "Refusal numbers", and document 02, A1 and A2: the number of each refusal, and for each answer that is an enum the paper's number and values in
+-- Document 01, "Refusal numbers", and document 02, A1 to A3: the number of each refusal, and for each answer that is an enum the paper's number and values in
 -- every case.
 -- Assumes nothing.
 use Prim.Native.Nat.{ℕ}
@@ -22,6 +22,7 @@ use Rattle.model.specs.declared.Refusal.the-variants.{
   CollectionUnmapped,
   PairUnmapped,
   ProcessorUnlisted,
+  DeviceTooLarge,
   ResourceNotFound,
   TableFull,
   LineDoesNotFit,
@@ -70,6 +71,8 @@ numberOf CollectionUnmapped = 24
 numberOf PairUnmapped = 25
 -- processor not listed
 numberOf ProcessorUnlisted = 26
+-- device too large, in strict (02, A3)
+numberOf DeviceTooLarge = 27
 -- pair or its collection not mapped: translate, INT, CLEAR
 numberOf ResourceNotFound = 8
 -- command needs a new record and its table is full
@@ -77,10 +80,10 @@ numberOf TableFull = 9
 -- C call: a line doesn't fit
 numberOf LineDoesNotFit = 11
 
--- the reasons for which a command fails its own checks, in the order in which A1 names them
+-- the reasons for which a command fails its own checks: seven in the order in which A1 names them, and A3's
 abbrev pub reasons : List Refusal
 reasons =
-    OpcodeUnknown ∷ LpiOutOfRange ∷ DeviceUnmapped ∷ EventBeyondBits ∷ CollectionUnmapped ∷ PairUnmapped ∷ ProcessorUnlisted ∷ []
+    OpcodeUnknown ∷ LpiOutOfRange ∷ DeviceUnmapped ∷ EventBeyondBits ∷ CollectionUnmapped ∷ PairUnmapped ∷ ProcessorUnlisted ∷ DeviceTooLarge ∷ []
 
 -- 01's own table, in which a refused command has one number for all its reasons
 abbrev pub numberIn01 : Refusal → ℕ
@@ -99,13 +102,14 @@ numberIn01 EventBeyondBits = 7
 numberIn01 CollectionUnmapped = 7
 numberIn01 PairUnmapped = 7
 numberIn01 ProcessorUnlisted = 7
+numberIn01 DeviceTooLarge = 7
 numberIn01 ResourceNotFound = 8
 numberIn01 TableFull = 9
 numberIn01 LineDoesNotFit = 11
 
--- 02, A1: "folding the new numbers back into 7", and no other number (proofs/Numbers)
+-- 02, A1: "folding the new numbers back into 7", and no other number (proofs/Numbers). A3: "device too large is 7 (27 under A1's list)"
 unfoldable pub folded : ℕ → ℕ
-folded n = if leb 20 n && leb n 26 then 7 else n
+folded n = if leb 20 n && leb n 27 then 7 else n
 
 -- what was accepted has the number 0
 abbrev pub verdictNumber : Verdict → ℕ

@@ -1,10 +1,10 @@
--- Document 01, "Commands": the checks of a command in order, the first that fails being the answer, and then its effect on the unit. A command
+-- Document 01, "Commands", and document 02, A3: the checks of a command in order, the first that fails being the answer, and then its effect on the unit. A command
 -- that is not accepted changes nothing.
 -- Assumes nothing.
 use Prim.Native.Nat.{ℕ, _^_}
-use mathlib.Core.Bool.{Bool, true, false, _&&_}
+use mathlib.Core.Bool.{Bool, true, false, _&&_, not}
 use mathlib.Core.List.{List, [], _∷_}
-use mathlib.Core.Option.{Option, some}
+use mathlib.Core.Option.{Option, none, some}
 use lib.Dec.{leb, ltb}
 use Rattle.model.specs.declared.ItsDeviceId.{ItsDeviceId}
 use Rattle.model.specs.declared.EventId.{EventId}
@@ -20,7 +20,7 @@ use Rattle.model.specs.declared.Delivery.{Delivery}
 use Rattle.model.specs.declared.ItsAction.{ItsAction}
 use Rattle.model.specs.declared.Command.{Command}
 use Rattle.model.specs.declared.Command.the-variants.{Mapd, Mapc, Mapti, Mapi, Movi, Int, Clear, Discard, Inv, Invall, Sync}
-use Rattle.model.specs.declared.Refusal.the-variants.{LpiOutOfRange, DeviceUnmapped, EventBeyondBits, CollectionUnmapped, PairUnmapped, ProcessorUnlisted, ResourceNotFound, TableFull}
+use Rattle.model.specs.declared.Refusal.the-variants.{LpiOutOfRange, DeviceUnmapped, EventBeyondBits, CollectionUnmapped, PairUnmapped, ProcessorUnlisted, DeviceTooLarge, ResourceNotFound, TableFull}
 use Rattle.model.specs.declared.Executed.{Executed}
 use Rattle.model.specs.declared.Applied.{Applied}
 use Rattle.model.specs.declared.Executed.the-variants.{NotDone, Done, Acted}
@@ -31,6 +31,7 @@ use Rattle.model.specs.Arm.{LPI-base}
 use Rattle.model.specs.Table.{look, room, store, dropAll}
 use Rattle.model.specs.Keys.{sameCollection, isDevice, isCollection, isPair, ofDevice, aDevice, aCollection, aTranslation, noDevice, noCollection, noTranslation, delivery, eventAsLpi}
 use Rattle.model.specs.With.{withDevices, withCollections, withTranslations}
+use Rattle.model.specs.Profile.{isStrict}
 use Rattle.model.specs.Config.{listed}
 
 -- What the unit holds: the lowest-numbered used record counts.
@@ -106,27 +107,53 @@ checkMapping u d e l c =
     roomForPair u d e or Refused TableFull then
     Accepted
 
--- the checks of a command, in order
-abbrev pub check : ItsState → Command → Verdict
-check u (Mapd d bits true) = roomForDevice u d or Refused TableFull then Accepted
-check u (Mapd d bits false) = Accepted
-check u (Mapc c p true) =
+-- 01's checks of a command, in order
+abbrev pub checkIn01 : ItsState → Command → Verdict
+checkIn01 u (Mapd d bits true) = roomForDevice u d or Refused TableFull then Accepted
+checkIn01 u (Mapd d bits false) = Accepted
+checkIn01 u (Mapc c p true) =
     listed (u .config) p or Refused ProcessorUnlisted then
     roomForCollection u c or Refused TableFull then
     Accepted
-check u (Mapc c p false) = Accepted
-check u (Mapti d e l c) = checkMapping u d e l c
-check u (Mapi d e c) = checkMapping u d e (eventAsLpi e) c
-check u (Movi d e c) =
+checkIn01 u (Mapc c p false) = Accepted
+checkIn01 u (Mapti d e l c) = checkMapping u d e l c
+checkIn01 u (Mapi d e c) = checkMapping u d e (eventAsLpi e) c
+checkIn01 u (Movi d e c) =
     collectionMapped u c or Refused CollectionUnmapped then
     pairMapped u d e or Refused PairUnmapped then
     Accepted
-check u (Int d e) = pairTranslates u d e or Refused ResourceNotFound then Accepted
-check u (Clear d e) = pairTranslates u d e or Refused ResourceNotFound then Accepted
-check u (Discard d e) = pairMapped u d e or Refused PairUnmapped then Accepted
-check u (Inv d e) = pairMapped u d e or Refused PairUnmapped then Accepted
-check u (Invall c) = collectionMapped u c or Refused CollectionUnmapped then Accepted
-check u Sync = Accepted
+checkIn01 u (Int d e) = pairTranslates u d e or Refused ResourceNotFound then Accepted
+checkIn01 u (Clear d e) = pairTranslates u d e or Refused ResourceNotFound then Accepted
+checkIn01 u (Discard d e) = pairMapped u d e or Refused PairUnmapped then Accepted
+checkIn01 u (Inv d e) = pairMapped u d e or Refused PairUnmapped then Accepted
+checkIn01 u (Invall c) = collectionMapped u c or Refused CollectionUnmapped then Accepted
+checkIn01 u Sync = Accepted
+
+-- the device that a command names: eight of the kinds name one
+abbrev pub deviceNamed : Command → Option ItsDeviceId
+deviceNamed (Mapd d bits valid) = some d
+deviceNamed (Mapc c p valid) = none
+deviceNamed (Mapti d e l c) = some d
+deviceNamed (Mapi d e c) = some d
+deviceNamed (Movi d e c) = some d
+deviceNamed (Int d e) = some d
+deviceNamed (Clear d e) = some d
+deviceNamed (Discard d e) = some d
+deviceNamed (Inv d e) = some d
+deviceNamed (Invall c) = none
+deviceNamed Sync = none
+
+-- in strict, device numbers above 65535, beyond what TYPER announces, are too large (02, A3)
+unfoldable pub tooLarge : ItsConfig → ItsDeviceId → Bool
+tooLarge k d = isStrict (k .profile) && ltb 65535 (d .0)
+
+-- and are refused by every command that names a device
+abbrev pub namesTooLarge : ItsConfig → Command → Bool
+namesTooLarge k x = ifFound (deviceNamed x) (tooLarge k) false
+
+-- THE CHECKS OF A COMMAND: device too large, before any other; then 01's
+abbrev pub check : ItsState → Command → Verdict
+check u x = not (namesTooLarge (u .config) x) or Refused DeviceTooLarge then checkIn01 u x
 
 -- The effects. Each says which of the three tables changes, and how.
 
@@ -146,9 +173,17 @@ storeTranslation d e l c u = withTranslations u (store (isPair d e) (λ r. r .us
 abbrev pub pairIn : CollectionId → List Translation → Translation → Bool
 pairIn c ts r = r .used && ifFound (look (isPair (r .device) (r .event)) ts) (λ a. sameCollection (a .collection) c) false
 
+-- all translations of a device dropped
+abbrev pub dropPairsOf : ItsDeviceId → ItsState → ItsState
+dropPairsOf d u = withTranslations u (dropAll (ofDevice d) noTranslation (u .translations))
+
 -- MAPD, not valid: drop the device and all its translations
 unfoldable pub dropDevice : ItsDeviceId → ItsState → ItsState
-dropDevice d u = withTranslations (withDevices u (dropAll (isDevice d) noDevice (u .devices))) (dropAll (ofDevice d) noTranslation (u .translations))
+dropDevice d u = dropPairsOf d (withDevices u (dropAll (isDevice d) noDevice (u .devices)))
+
+-- in strict, a valid MAPD of a mapped device drops its translations (02, A3), and then stores
+unfoldable pub cleared : ItsDeviceId → ItsState → ItsState
+cleared d u = if isStrict (u .config .profile) && deviceMapped u d then dropPairsOf d u else u
 
 -- MAPC, not valid: drop the collection and all its translations
 unfoldable pub dropCollection : CollectionId → ItsState → ItsState
@@ -164,21 +199,40 @@ dropPair d e u = withTranslations u (dropAll (isPair d e) noTranslation (u .tran
 unfoldable pub movePair : ItsDeviceId → EventId → CollectionId → ItsState → ItsState
 movePair d e c u = ifFound (translationOf u d e) (λ r. storeTranslation d e (r .lpi) c u) u
 
--- the effect of a command that is accepted
+-- 01's effect of a command that is accepted
+abbrev pub effectIn01 : ItsState → Command → ItsState
+effectIn01 u (Mapd d bits true) = storeDevice d bits u
+effectIn01 u (Mapd d bits false) = dropDevice d u
+effectIn01 u (Mapc c p true) = storeCollection c p u
+effectIn01 u (Mapc c p false) = dropCollection c u
+effectIn01 u (Mapti d e l c) = storeTranslation d e l c u
+effectIn01 u (Mapi d e c) = storeTranslation d e (eventAsLpi e) c u
+effectIn01 u (Movi d e c) = movePair d e c u
+effectIn01 u (Int d e) = u
+effectIn01 u (Clear d e) = u
+effectIn01 u (Discard d e) = dropPair d e u
+effectIn01 u (Inv d e) = u
+effectIn01 u (Invall c) = u
+effectIn01 u Sync = u
+
+-- what strict does before it
+abbrev pub beforehand : ItsState → Command → ItsState
+beforehand u (Mapd d bits true) = cleared d u
+beforehand u (Mapd d bits false) = u
+beforehand u (Mapc c p valid) = u
+beforehand u (Mapti d e l c) = u
+beforehand u (Mapi d e c) = u
+beforehand u (Movi d e c) = u
+beforehand u (Int d e) = u
+beforehand u (Clear d e) = u
+beforehand u (Discard d e) = u
+beforehand u (Inv d e) = u
+beforehand u (Invall c) = u
+beforehand u Sync = u
+
+-- THE EFFECT OF A COMMAND that is accepted
 abbrev pub effect : ItsState → Command → ItsState
-effect u (Mapd d bits true) = storeDevice d bits u
-effect u (Mapd d bits false) = dropDevice d u
-effect u (Mapc c p true) = storeCollection c p u
-effect u (Mapc c p false) = dropCollection c u
-effect u (Mapti d e l c) = storeTranslation d e l c u
-effect u (Mapi d e c) = storeTranslation d e (eventAsLpi e) c u
-effect u (Movi d e c) = movePair d e c u
-effect u (Int d e) = u
-effect u (Clear d e) = u
-effect u (Discard d e) = dropPair d e u
-effect u (Inv d e) = u
-effect u (Invall c) = u
-effect u Sync = u
+effect u x = effectIn01 (beforehand u x) x
 
 -- the action of INT (pending) and CLEAR (not pending)
 abbrev pub actionTo : Bool → Delivery → ItsAction

@@ -44,11 +44,11 @@ abbrev pub numbers : ℕ → ℕ → List ℕ → List GicVcpuId
 numbers i zero l = []
 numbers i (suc n) l = record { 0 = number i 2 l } ∷ numbers (i + 2) n l
 
--- CF: limit 4, budget 4, frame 4, count n 1, n numbers of 2 bytes. A configuration has places for 16: of more it holds the first 16
+-- CF: limit 4, budget 4, frame 4, profile 1 (02, A3), count n 1, n numbers of 2 bytes. A configuration has places for 16: of more it holds the first 16
 abbrev pub configRead : List ℕ → ItsConfig
 configRead l =
-    aConfig (number 2 4 l) (number 6 4 l) (number 10 4 l) (number 14 1 l)
-    (take 16 (numbers 15 (number 14 1 l) l ++ replicate 16 (record { 0 = 0 })))
+    aConfig (number 2 4 l) (number 6 4 l) (number 10 4 l) (number 14 1 l) (number 15 1 l)
+    (take 16 (numbers 16 (number 15 1 l) l ++ replicate 16 (record { 0 = 0 })))
 
 -- GM: address 8, length 4, bytes
 abbrev pub windowIn : List ℕ → Window
@@ -65,7 +65,7 @@ marked mark l = leb 2 (length l) && (eqb (getD l 0 0) (getD (ascii mark) 0 0) &&
 -- a bad mark, a short record and a GM of over 4,096 bytes are broken
 unfoldable pub parse : List ℕ → Parsed
 parse l =
-    if marked "CF" l then (if leb 15 (length l) then sized (15 + 2 * number 14 1 l) l (CF (configRead l)) else broken) else
+    if marked "CF" l then (if leb 16 (length l) then sized (16 + 2 * number 15 1 l) l (CF (configRead l)) else broken) else
     if marked "GM" l then (if leb 14 (length l) && leb (number 10 4 l) 4096 then sized (14 + number 10 4 l) l (GM (windowIn l)) else broken) else
     if marked "RD" l then sized 11 l (RD (number 2 8 l) (number 10 1 l)) else
     if marked "WR" l then sized 19 l (WR (number 2 8 l) (number 10 1 l) (number 11 8 l)) else

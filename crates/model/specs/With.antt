@@ -51,10 +51,13 @@ withWriter r writer = withRing r (r .cbaser) (r .creadr) writer
 abbrev pub withBasers : ItsRegisters → List ℕ → ItsRegisters
 withBasers r basers = theRegisters (r .enabled) (r .cbaser) (r .creadr) (r .cwriter) basers
 
--- The configuration: LPI limit, budget, frame, the count of processors, and sixteen of them.
-abbrev pub aConfig : ℕ → ℕ → ℕ → ℕ → List GicVcpuId → ItsConfig
-aConfig limit budget frame count ps =
-    record { «lpi_limit» = limit; «command_budget» = budget; «frame_size» = frame; «processor_count» = count; processors = ps }
+-- The configuration: LPI limit, budget, frame, profile, the count of processors, and sixteen of them.
+abbrev pub aConfig : ℕ → ℕ → ℕ → ℕ → ℕ → List GicVcpuId → ItsConfig
+aConfig limit budget frame profile count ps =
+    record { «lpi_limit» = limit; «command_budget» = budget; «frame_size» = frame; profile = profile; «processor_count» = count; processors = ps }
+
+abbrev pub withProfile : ItsConfig → ℕ → ItsConfig
+withProfile k profile = aConfig (k .«lpi_limit») (k .«command_budget») (k .«frame_size») profile (k .«processor_count») (k .processors)
 
 abbrev pub withProcessors : ItsConfig → List GicVcpuId → ItsConfig
-withProcessors k ps = aConfig (k .«lpi_limit») (k .«command_budget») (k .«frame_size») (k .«processor_count») ps
+withProcessors k ps = aConfig (k .«lpi_limit») (k .«command_budget») (k .«frame_size») (k .profile) (k .«processor_count») ps

@@ -32,11 +32,12 @@ pub struct Translation {
     pub used: bool,
 }
 
-// What configuration fixes. The processors are the first `processor_count` of the sixteen.
+// What configuration fixes. The profile is 0 for base or 1 for strict. The processors are the first `processor_count` of the sixteen.
 pub struct ItsConfig {
     pub lpi_limit: u32,
     pub command_budget: u32,
     pub frame_size: u32,
+    pub profile: u32,
     pub processor_count: u8,
     pub processors: [GicVcpuId; 16],
 }
@@ -144,6 +145,7 @@ pub enum Refusal {
     CollectionUnmapped,
     PairUnmapped,
     ProcessorUnlisted,
+    DeviceTooLarge,
     ResourceNotFound,
     TableFull,
     LineDoesNotFit,

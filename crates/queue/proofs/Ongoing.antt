@@ -18,7 +18,7 @@ use Rattle.model.specs.declared.Refusal.the-variants.{BudgetExceeded}
 use Rattle.model.specs.Choose.{if_then_else_}
 use Rattle.model.specs.With.{withRegisters}
 use Rattle.model.specs.Step.{check, stepped, executed}
-use Rattle.model.specs.Queue.{Window, Stands, Turn, turn, waiting, commandAddress, judged, pastCommand, run}
+use Rattle.model.specs.Queue.{Window, Stands, Turn, turn, waiting, commandAddress, judged, pastCommand, run, mayRun}
 use Rattle.model.specs.Entry.{rowAfter, afterRun}
 use Rattle.model.proofs.Cases.{cases, never}
 use Rattle.model.proofs.Answers.{both-hold, second-fails, first-fails}
@@ -37,18 +37,18 @@ use Rattle.queue.specs.Ongoing.{Ready, Begun, noAction, firstOf, progres
 
 -- The counts before the first turn.
 module _ (u : ItsState) where
-  pub counts-off : u .registers .enabled ≡ false → begun 0 ≡ firstCounts u
+  pub counts-off : mayRun (u .config) (u .registers) ≡ false → begun 0 ≡ firstCounts u
   unfolding firstCounts
-  counts-off h = sym (first-fails (u .registers .enabled) (leb (waiting (u .registers)) (u .config .«command_budget»)) (halted BudgetExceeded) (begun (waiting (u .registers))) (begun 0) h)
+  counts-off h = sym (first-fails (mayRun (u .config) (u .registers)) (leb (waiting (u .registers)) (u .config .«command_budget»)) (halted BudgetExceeded) (begun (waiting (u .registers))) (begun 0) h)
 
-  module _ (on : u .registers .enabled ≡ true) {n : ℕ} (count : n ≡ waiting (u .registers)) where
+  module _ (on : mayRun (u .config) (u .registers) ≡ true) {n : ℕ} (count : n ≡ waiting (u .registers)) where
     pub counts-over : u .config .«command_budget» < n → halted BudgetExceeded ≡ firstCounts u
     unfolding firstCounts
-    counts-over h = sym (second-fails (u .registers .enabled) _ _ _ _ on (lt-leb (waiting (u .registers)) (u .config .«command_budget») (omega arith)))
+    counts-over h = sym (second-fails (mayRun (u .config) (u .registers)) _ _ _ _ on (lt-leb (waiting (u .registers)) (u .config .«command_budget») (omega arith)))
 
     pub counts-on : n ≤ u .config .«command_budget» → begun n ≡ firstCounts u
     unfolding firstCounts
-    counts-on h = ap begun count ∙ sym (both-hold (u .registers .enabled) _ _ _ _ on (le-leb (waiting (u .registers)) (u .config .«command_budget») (omega arith)))
+    counts-on h = ap begun count ∙ sym (both-hold (mayRun (u .config) (u .registers)) _ _ _ _ on (le-leb (waiting (u .registers)) (u .config .«command_budget») (omega arith)))
 
 -- A turn, from the code's account of it.
 pub moves-on : (t : Progress) {y : Turn} {v : ItsState} {turned : Turned} {handed : List ItsAction} → Turning (t .unit) y v turned handed →

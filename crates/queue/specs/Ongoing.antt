@@ -14,7 +14,7 @@ use Rattle.model.specs.declared.WriteAnswer.{WriteAnswer}
 use Rattle.model.specs.declared.Written.{Written}
 use Rattle.model.specs.declared.Refusal.the-variants.{BudgetExceeded}
 use Rattle.model.specs.Choose.{if_then_else_, _or_then_}
-use Rattle.model.specs.Queue.{Window, Stands, Turn, waiting, commandAddress, run}
+use Rattle.model.specs.Queue.{Window, Stands, Turn, waiting, commandAddress, run, mayRun}
 use Rattle.model.specs.Entry.{Outcome, afterRun}
 use Rattle.answers.specs.declared.Turned.{Turned}
 use Rattle.answers.specs.declared.Counts.{Counts}
@@ -58,7 +58,7 @@ progressOf u n handed at = progressWith u n (acts handed) (firstOf handed) at
 -- the counts before the first turn: 5 is tested once
 unfoldable pub firstCounts : ItsState → Counts
 firstCounts u =
-    if u .registers .enabled
+    if mayRun (u .config) (u .registers)
     then (leb (waiting (u .registers)) (u .config .«command_budget») or halted BudgetExceeded then begun (waiting (u .registers)))
     else begun 0
 

@@ -10,6 +10,7 @@ use model::Decoded;
 use model::Executed;
 use model::GicVcpuId;
 use model::ItsAction;
+use model::ItsConfig;
 use model::ItsRegisters;
 use model::ItsState;
 use model::LpiId;
@@ -24,7 +25,7 @@ ghost use lib.ListN.{length};
 ghost use Rattle.model.specs.Choose.{if_then_else_};
 ghost use Rattle.model.specs.Config.{queueSize};
 ghost use Rattle.model.specs.Step.{check};
-ghost use Rattle.model.specs.Queue.{Stands, waiting as waitingOf, stays, judged, pastCommand};
+ghost use Rattle.model.specs.Queue.{Stands, waiting as waitingOf, stays, judged, pastCommand, mayRun};
 ghost use Rattle.decoding.specs.Reading.{lent};
 ghost use Rattle.queue.specs.Ongoing.{Ready, Begun, noAction, firstOf, progressWith, progressOf, firstCounts, startOf, settledOf, turnedIn, handedIn, turnedOn, turnOf, finishOf, endOf};
 
@@ -93,11 +94,21 @@ fn quiet(unit: ItsState, counts: Counts, at: usize) -> Progress
     stand(unit, counts, false, action, at)
 }
 
+// The queue runs in an enabled unit; in strict only where CBASER's bit 63 is set.
+fn may_run(config: ItsConfig, registers: ItsRegisters) -> bool
+    ensures { λ r. ⌜ r ≡ mayRun config registers ⌝ }
+{
+    let valid = registers.cbaser / 0x8000_0000_0000_0000 % 2;
+    let held = (config.profile == 1) & (valid == 0);
+    registers.enabled & !held
+}
+
 fn first_counts(unit: ItsState) -> Counts
     ensures { λ r. ⌜ r ≡ firstCounts unit ⌝ }
 {
+    let config = unit.config;
     let registers = unit.registers;
-    if !registers.enabled {
+    if !may_run(config, registers) {
         return Counts {
             left: 0,
             done: 0,
@@ -106,7 +117,6 @@ fn first_counts(unit: ItsState) -> Counts
         };
     }
     let count = waiting(registers);
-    let config = unit.config;
     let budget = config.command_budget as u64;
     if budget < count {
         return Counts {

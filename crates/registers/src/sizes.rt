@@ -70,12 +70,14 @@ pub fn sound_config(config: ItsConfig) -> bool
     let limit = config.lpi_limit;
     let budget = config.command_budget;
     let frame = config.frame_size;
+    let profile = config.profile;
     let count = config.processor_count;
     let processors = config.processors;
     let once = none_twice(processors, count as usize);
-    ((8192 <= limit) & (limit <= 16777215))
+    let sizes = ((8192 <= limit) & (limit <= 16777215))
         & (((1 <= budget) & (budget <= 1024))
-            & (((frame == 65536) | (frame == 131072)) & (((1 <= count) & (count <= 16)) & once)))
+            & (((frame == 65536) | (frame == 131072)) & (((1 <= count) & (count <= 16)) & once)));
+    sizes & (profile <= 1)
 }
 
 // Whether an offset is one into the queue: a multiple of 32 below its size.

@@ -73,6 +73,7 @@ pub fn config(limit: u32) -> ItsConfig
         lpi_limit: limit,
         command_budget: 64,
         frame_size: 65536,
+        profile: 0,
         processor_count: 2,
         processors: processors,
     }

@@ -64,7 +64,7 @@ size-left n = omega arith
 
 sound-as : (m : Mark) (l : List ℕ) → Sound l (parsedAs m l)
 unfolding parsedAs
-sound-as Cf l = sound-if l (leb 15 (length l)) (sized (15 + 2 * number 14 1 l) l (CF (configRead l))) (λ t. sound-sized l (15 + 2 * number 14 1 l) (CF (configRead l)) (omega arith) tt)
+sound-as Cf l = sound-if l (leb 16 (length l)) (sized (16 + 2 * number 15 1 l) l (CF (configRead l))) (λ t. sound-sized l (16 + 2 * number 15 1 l) (CF (configRead l)) (omega arith) tt)
 sound-as Gm l =
     sound-if l (leb 14 (length l) && leb (number 10 4 l) 4096) (sized (14 + number 10 4 l) l (GM (windowIn l)))
     (λ t. sound-sized l (14 + number 10 4 l) (GM (windowIn l)) (omega arith) (omega arith, rw size-left))
@@ -84,17 +84,17 @@ sized-short : (n : ℕ) (l : List ℕ) (r : Record) → length l < n → sized n
 sized-short n l r h = rw (lt-leb n (length l) h)
 
 module _ (l : List ℕ) where
-  pub cf-short : length l < 15 → parsedAs Cf l ≡ broken
+  pub cf-short : length l < 16 → parsedAs Cf l ≡ broken
   unfolding parsedAs
-  cf-short h = rw (lt-leb 15 (length l) h)
+  cf-short h = rw (lt-leb 16 (length l) h)
 
-  pub cf-cut : 15 ≤ length l → length l < 15 + 2 * number 14 1 l → parsedAs Cf l ≡ broken
+  pub cf-cut : 16 ≤ length l → length l < 16 + 2 * number 15 1 l → parsedAs Cf l ≡ broken
   unfolding parsedAs
-  cf-cut h k = rw (le-leb 15 (length l) h) (sized-short (15 + 2 * number 14 1 l) l (CF (configRead l)) k)
+  cf-cut h k = rw (le-leb 16 (length l) h) (sized-short (16 + 2 * number 15 1 l) l (CF (configRead l)) k)
 
-  pub cf-whole : 15 + 2 * number 14 1 l ≤ length l → parsedAs Cf l ≡ whole (CF (configRead l)) (15 + 2 * number 14 1 l)
+  pub cf-whole : 16 + 2 * number 15 1 l ≤ length l → parsedAs Cf l ≡ whole (CF (configRead l)) (16 + 2 * number 15 1 l)
   unfolding parsedAs
-  cf-whole h = rw (le-leb 15 (length l) (omega arith)) (sized-whole (15 + 2 * number 14 1 l) l (CF (configRead l)) h)
+  cf-whole h = rw (le-leb 16 (length l) (omega arith)) (sized-whole (16 + 2 * number 15 1 l) l (CF (configRead l)) h)
 
   pub gm-short : length l < 14 → parsedAs Gm l ≡ broken
   unfolding parsedAs

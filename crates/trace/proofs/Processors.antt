@@ -39,30 +39,30 @@ take-replicate (suc k) (suc n) a h = ap (λ ps. a ∷ ps) (take-replicate k n a 
 
 -- sixteen places, of which the first k hold a number
 abbrev pub filled : ℕ → List ℕ → List GicVcpuId
-filled k l = numbers 15 k l ++ replicate (16 - k) none
+filled k l = numbers 16 k l ++ replicate (16 - k) none
 
-pub filled-more : (k : ℕ) (l : List ℕ) → k < 16 → set (filled k l) k (record { 0 = number (15 + 2 * k) 2 l }) ≡ filled (k + 1) l
+pub filled-more : (k : ℕ) (l : List ℕ) → k < 16 → set (filled k l) k (record { 0 = number (16 + 2 * k) 2 l }) ≡ filled (k + 1) l
 filled-more k l h =
     let places : 16 - k ≡ suc (15 - k) = omega arith in
     let left : 16 - (k + 1) ≡ 15 - k = omega arith in
     rw (
       places,
       left,
-      numbers-more 15 k l,
-      set-at (numbers 15 k l) none (replicate (15 - k) none) (record { 0 = number (15 + 2 * k) 2 l }) k (numbers-length 15 k l),
+      numbers-more 16 k l,
+      set-at (numbers 16 k l) none (replicate (15 - k) none) (record { 0 = number (16 + 2 * k) 2 l }) k (numbers-length 16 k l),
       append-snoc,
     )
 
 -- all of them, if they are no more than sixteen
-pub filled-all : (k : ℕ) (l : List ℕ) → k ≤ 16 → filled k l ≡ take 16 (numbers 15 k l ++ replicate 16 none)
+pub filled-all : (k : ℕ) (l : List ℕ) → k ≤ 16 → filled k l ≡ take 16 (numbers 16 k l ++ replicate 16 none)
 filled-all k l h =
-    let places : 16 ≡ length (numbers 15 k l) + (16 - k) = rw numbers-length (omega arith) in
+    let places : 16 ≡ length (numbers 16 k l) + (16 - k) = rw numbers-length (omega arith) in
     sym
-    (ap (λ n. take n (numbers 15 k l ++ replicate 16 none)) places
-    ∙ rw (take-append-add (numbers 15 k l) (replicate 16 none) (16 - k), take-replicate (16 - k) 16 none (omega arith)))
+    (ap (λ n. take n (numbers 16 k l ++ replicate 16 none)) places
+    ∙ rw (take-append-add (numbers 16 k l) (replicate 16 none) (16 - k), take-replicate (16 - k) 16 none (omega arith)))
 
 -- the first sixteen
-pub filled-first : (n : ℕ) (l : List ℕ) → 16 ≤ n → filled 16 l ≡ take 16 (numbers 15 n l ++ replicate 16 none)
+pub filled-first : (n : ℕ) (l : List ℕ) → 16 ≤ n → filled 16 l ≡ take 16 (numbers 16 n l ++ replicate 16 none)
 filled-first n l h =
-    append-nil (numbers 15 16 l)
-    ∙ sym (take-append-le 16 (numbers 15 n l) (replicate 16 none) (rw numbers-length h) ∙ take-numbers 16 15 n l h)
+    append-nil (numbers 16 16 l)
+    ∙ sym (take-append-le 16 (numbers 16 n l) (replicate 16 none) (rw numbers-length h) ∙ take-numbers 16 16 n l h)

@@ -22,7 +22,7 @@ markOf l =
 
 -- the record after each mark
 unfoldable pub parsedAs : Mark → List ℕ → Parsed
-parsedAs Cf l = if leb 15 (length l) then sized (15 + 2 * number 14 1 l) l (CF (configRead l)) else broken
+parsedAs Cf l = if leb 16 (length l) then sized (16 + 2 * number 15 1 l) l (CF (configRead l)) else broken
 parsedAs Gm l = if leb 14 (length l) && leb (number 10 4 l) 4096 then sized (14 + number 10 4 l) l (GM (windowIn l)) else broken
 parsedAs Rd l = sized 11 l (RD (number 2 8 l) (number 10 1 l))
 parsedAs Wr l = sized 19 l (WR (number 2 8 l) (number 10 1 l) (number 11 8 l))

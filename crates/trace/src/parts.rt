@@ -68,10 +68,10 @@ pub fn number_at(bytes: &[u8], at: usize, count: usize) -> u64
     word
 }
 
-// The first sixteen of `count` processor numbers, which start at the place 15 of a CF.
+// The first sixteen of `count` processor numbers, which start at the place 16 of a CF.
 fn processors_in(bytes: &[u8], count: usize) -> [GicVcpuId; 16]
-    requires { ⌜ 15 + 2 * count ≤ length (now bytes) ⌝ }
-    ensures { λ r. ⌜ r ≡ take 16 (numbers 15 count (now (bytes .entry)) ++ replicate 16 (record { 0 = 0 })) ⌝ }
+    requires { ⌜ 16 + 2 * count ≤ length (now bytes) ⌝ }
+    ensures { λ r. ⌜ r ≡ take 16 (numbers 16 count (now (bytes .entry)) ++ replicate 16 (record { 0 = 0 })) ⌝ }
 {
     let zero = GicVcpuId(0);
     let mut processors = [zero; 16];
@@ -83,7 +83,7 @@ fn processors_in(bytes: &[u8], count: usize) -> [GicVcpuId; 16]
         if count <= i {
             break;
         }
-        let place = 15 + 2 * i;
+        let place = 16 + 2 * i;
         let n = number_at(bytes, place, 2) as u16;
         let processor = GicVcpuId(n);
         processors[i] = processor;
@@ -94,17 +94,19 @@ fn processors_in(bytes: &[u8], count: usize) -> [GicVcpuId; 16]
 
 // The configuration of a CF.
 pub fn config_in(bytes: &[u8], count: u8) -> ItsConfig
-    requires { ⌜ (15 + 2 * count ≤ length (now bytes)) × (count ≡ number 14 1 (now bytes)) ⌝ }
+    requires { ⌜ (16 + 2 * count ≤ length (now bytes)) × (count ≡ number 15 1 (now bytes)) ⌝ }
     ensures { λ r. ⌜ r ≡ configRead (now (bytes .entry)) ⌝ }
 {
     let limit = number_at(bytes, 2, 4) as u32;
     let budget = number_at(bytes, 6, 4) as u32;
     let frame = number_at(bytes, 10, 4) as u32;
+    let profile = number_at(bytes, 14, 1) as u32;
     let processors = processors_in(bytes, count as usize);
     ItsConfig {
         lpi_limit: limit,
         command_budget: budget,
         frame_size: frame,
+        profile: profile,
         processor_count: count,
         processors: processors,
     }

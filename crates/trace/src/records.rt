@@ -40,11 +40,11 @@ fn configured(trace: &[u8], bytes: &[u8], out: &mut [u8], run: Run) -> Run
     requires { ⌜ Within (now trace) (now bytes) run ⌝ }
     ensures { λ r. ⌜ CarriesRecord Mark.Cf (now (trace .entry)) (now (bytes .entry)) (now (out .entry)) run (now (out .exit)) r ⌝ }
 {
-    if bytes.len() < 15 {
+    if bytes.len() < 16 {
         return broken_off(trace, out, run);
     }
-    let count = crate::parts::number_at(bytes, 14, 1) as u8;
-    let size = 15 + 2 * (count as usize);
+    let count = crate::parts::number_at(bytes, 15, 1) as u8;
+    let size = 16 + 2 * (count as usize);
     if bytes.len() < size {
         return broken_off(trace, out, run);
     }

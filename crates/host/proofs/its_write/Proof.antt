@@ -17,13 +17,15 @@ returns c =
     let n = c .before .before in
     let k = n .before .before .before .write .ensures in
     let a = c .before .before .before .before .before .before .before .before .before .before .args in
-    let s = a .state .now in
-    record {
-      unit = k .unit;
-      row = k .row;
-      row-reads = ap (map actionIn) (k .row) ∙ made-reads (lent (a .address) (a .bytes .now)) (a .row .now) (unitIn s) (numbers-small s) (a .offset) (a .width) (a .value);
-      told = retold (n .write-numbers .ensures ∙ ap numbersOfWrite (k .answer)) (c .tell .ensures);
-    }
+    let s = a .state .now in (
+      record {
+        unit = k .unit;
+        row = k .row;
+        row-reads = ap (map actionIn) (k .row) ∙ made-reads (lent (a .address) (a .bytes .now)) (a .row .now) (unitIn s) (numbers-small s) (a .offset) (a .width) (a .value);
+        told = retold (n .write-numbers .ensures ∙ ap numbersOfWrite (k .answer)) (c .tell .ensures);
+      },
+      k .alone,
+    )
 
 pub its-write-spec : {M : Type 1} → statement M
 its-write-spec =

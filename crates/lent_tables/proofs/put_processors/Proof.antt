@@ -11,9 +11,10 @@ returns c =
     let p2 = p3 .before .before .before .before .before in
     let p1 = p2 .before .before .before .before .before in
     let all = p1 .before .before .before .before .before in
-    let s = all .before .before .args in
+    let e = all .before .before in
+    let s = e .args in
     processors-put (s .state .now) (all .whole .ensures) (s .t2) (search needs) _ _ _ _ (p1 .packed .ensures) (p2 .packed2 .ensures)
-    (p3 .packed3 .ensures) (c .packed4 .ensures)
+    (p3 .packed3 .ensures) (c .packed4 .ensures) (search needs)
 
 pub put-processors-spec : {M : Type 1} → statement M
 put-processors-spec =

@@ -1,12 +1,12 @@
 -- `registers::sizes::sound_config` meets its contract: the tests of the definition.
 -- Assumes nothing.
 use borrow.Author.Needs.{needs}
-use Rattle.model.specs.Config.{soundConfig}
+use Rattle.model.specs.Config.{sizesIn01, soundConfig}
 use Rattle.registers.proofs.sizes.sound_config.Statement.{statement}
 use Rattle.registers.proofs.sizes.sound_config.Tie as tie
 
 returns : tie.Need-returns
-unfolding soundConfig
+unfolding sizesIn01 soundConfig
 returns c = rw (c .none-twice .ensures)
 
 pub sound-config-spec : {M : Type 1} → statement M

@@ -1,0 +1,133 @@
+-- A base unit is document 01's, and where the profiles agree both answer alike (model: Profiles, Alike).
+-- Assumes nothing.
+use Prim.Native.Nat.{ℕ}
+use mathlib.Core.Path.{_≡_, refl, sym, ap, ap₂, subst, _∙_}
+use mathlib.Core.Bool.{true}
+use mathlib.Core.List.{List, map}
+use lib.ListN.{getD}
+use Rattle.model.specs.declared.ItsConfig.{ItsConfig}
+use Rattle.model.specs.declared.ItsState.{ItsState}
+use Rattle.model.specs.declared.ItsAction.{ItsAction}
+use Rattle.model.specs.declared.Verdict.the-variants.{Accepted}
+use Rattle.model.specs.declared.Configured.{Configured}
+use Rattle.model.specs.declared.Command.{Command}
+use Rattle.model.specs.Choose.{if_then_else_}
+use Rattle.model.specs.With.{withRegisters, withProfile}
+use Rattle.model.specs.Refusal.{verdictNumber}
+use Rattle.model.specs.Queue.{Window, runQueue}
+use Rattle.model.specs.Entry.{configure, stores, write}
+use Rattle.model.specs.In01.{configureIn01}
+use Rattle.model.specs.Common.{inProfile, CommonWrite}
+use Rattle.model.specs.Trace.{Record, CF, GM, RD, WR, TR, line, readLine, translateLine, writeLines, lentRow, writeOf, linesOf}
+use Rattle.model.proofs.Profiles.{base-reads, base-translates, base-writes, base-configures}
+use Rattle.model.proofs.Alike.{same-reads, same-translates, same-writes, same-made, same-stores, same-verdict, same-fresh, fresh-base}
+use Rattle.its.specs.Contracts.{Configures, Writes}
+use Rattle.host.specs.Calls.{Tells, numbersOfRead, numbersOfWrite, numbersOfTranslation, actionIn, rowWith, actionsMade, CallReads, CallWrites, CallTranslates}
+use Rattle.guarantees.specs.MappingsInForce.{Led}
+use Rattle.guarantees.specs.Profiles.{standing, linesIn01, InBase, As01, LedAlike, both-begin, both-write, CommonRecord, AnswerAlike}
+use Rattle.guarantees.proofs.Follows.{commands-follow}
+use Rattle.guarantees.proofs.InForce.{mappings-in-force}
+
+-- A BASE UNIT.
+module _ (u : ItsState) (b : u .config .profile ≡ 0) where
+  lines-as-01 : (w : Window) (r : Record) → InBase r → linesOf (standing u w) r ≡ linesIn01 (standing u w) r
+  unfolding writeOf
+  lines-as-01 w (CF k) c = rw (base-configures k c)
+  lines-as-01 w (GM v) c = refl
+  lines-as-01 w (RD offset width) c = rw (base-reads u b offset width)
+  lines-as-01 w (WR offset width value) c = rw (base-writes u b w lentRow offset width value)
+  lines-as-01 w (TR d e) c = rw (base-translates u b d e)
+
+  pub base-as-01 : As01 u
+  base-as-01 =
+      record {
+        reads = λ offset width r e. e .answer ∙ base-reads u b offset width;
+        translates = λ d e r q. q .answer ∙ base-translates u b d e;
+        writes = λ w row offset width value r left e.
+            let same = base-writes u b w row offset width value in
+            (e .answer ∙ ap (λ o. o .written) same, e .row-left ∙ ap (λ o. o .row) same);
+        stays-base = λ w row offset width value r left e. ap (λ k. k .profile) (commands-follow w row u offset width value r left e .config) ∙ b;
+        call-reads = λ offset width r told c. subst (λ a. Tells (numbersOfRead a) r told) (base-reads u b offset width) c;
+        call-translates = λ device event r told c.
+            subst (λ a. Tells (numbersOfTranslation a) r told) (base-translates u b (record { 0 = device }) (record { 0 = event })) c;
+        call-writes = λ w row offset width value left after r told c.
+            let same = base-writes u b w (map actionIn row) offset width value in (
+              c .unit ∙ ap (λ o. o .written .unit) same,
+              c .row-reads ∙ ap (λ o. o .row) same,
+              subst (λ o. Tells (numbersOfWrite (o .written .answer)) r told) same (c .told),
+            );
+        records = lines-as-01;
+      }
+
+-- over whole runs: the configuration never changes
+pub base-led : {k : ItsConfig} {u : ItsState} {h : List Command} → k .profile ≡ 0 → Led k u h → As01 u
+base-led {u = u} b l = base-as-01 u (ap (λ c. c .profile) (mappings-in-force l .config) ∙ b)
+
+pub base-configured : (k : ItsConfig) → k .profile ≡ 0 → (c : Configured) → Configures k c → c ≡ configureIn01 k
+base-configured k b c e = e .answer ∙ base-configures k b
+
+-- BOTH PROFILES.
+module _ (u : ItsState) (b : u .config .profile ≡ 0) where
+  abbrev v : ItsState
+  v = inProfile 1 u
+
+  lines-alike : (w : Window) (r : Record) → CommonRecord (standing u w) r → linesOf (standing v w) r ≡ linesOf (standing u w) r
+  unfolding writeOf
+  lines-alike w (CF k) c = refl
+  lines-alike w (GM x) c = refl
+  lines-alike w (RD offset width) c = rw (same-reads u b offset width)
+  lines-alike w (WR offset width value) c = rw (same-writes u b w lentRow offset width value c)
+  lines-alike w (TR d e) c = rw (same-translates u b d e)
+
+  -- two that tell the same
+  told-alike : (m n : List ℕ) → n ≡ m → (r r′ : ℕ) (told told′ : List ℕ) → Tells m r told → Tells n r′ told′ → (r′ ≡ r) × (told′ ≡ told)
+  told-alike m n e r r′ told told′ p q = (q .1 ∙ (ap (λ l. getD l 0 0) e ∙ sym (p .1)), q .0 ∙ (e ∙ sym (p .0)))
+
+  alike : AnswerAlike u v
+  alike =
+      record {
+        same = refl;
+        reads = λ offset width r r′ e e′. e′ .answer ∙ (same-reads u b offset width ∙ sym (e .answer));
+        translates = λ d e r r′ q q′. q′ .answer ∙ (same-translates u b d e ∙ sym (q .answer));
+        writes = λ w row offset width value c r r′ left left′ e e′.
+            let same = same-writes u b w row offset width value c in (
+              e′ .answer ∙ (ap (λ o. o .written) same ∙ ap (λ x. record { unit = inProfile 1 (x .unit); answer = x .answer }) (sym (e .answer))),
+              e′ .row-left ∙ (ap (λ o. o .row) same ∙ sym (e .row-left)),
+            );
+        call-reads = λ offset width r r′ told told′ c c′. told-alike _ _ (ap numbersOfRead (same-reads u b offset width)) r r′ told told′ c c′;
+        call-translates = λ device event r r′ told told′ c c′.
+            told-alike _ _ (ap numbersOfTranslation (same-translates u b (record { 0 = device }) (record { 0 = event }))) r r′ told told′ c c′;
+        call-writes = λ w row offset width value c left left′ after after′ r r′ told told′ x x′.
+            let same = same-writes u b w (map actionIn row) offset width value c in
+            let t = told-alike _ _ (ap (λ o. numbersOfWrite (o .written .answer)) same) r r′ told told′ (x .told) (x′ .told) in (
+              x′ .unit ∙ (ap (λ o. o .written .unit) same ∙ ap (inProfile 1) (sym (x .unit))),
+              x′ .row ∙ (ap (λ l. rowWith l row) (made w (map actionIn row) offset width value c) ∙ sym (x .row)),
+              t .0,
+              t .1,
+            );
+        records = lines-alike;
+      }
+    where
+      made : (w : Window) (row : List ItsAction) (offset width value : ℕ) → CommonWrite w u (stores row u offset width value) → actionsMade w row v offset width value ≡ actionsMade w row u offset width value
+      made w row offset width value c = same-made u b w row offset width value c
+
+led-alike : {k : ItsConfig} {u v : ItsState} → LedAlike k u v → (v ≡ inProfile 1 u) × (u .config .profile ≡ 0)
+led-alike {k} (both-begin c c′ e e′ a) =
+    let fresh = same-fresh k (ap (λ z. z .verdict) (sym (e .answer)) ∙ a) in (
+      ap (λ z. z .unit) (e′ .answer) ∙ (fresh ∙ ap (λ z. inProfile 1 (z .unit)) (sym (e .answer))),
+      ap (λ z. z .unit .config .profile) (e .answer) ∙ fresh-base k (ap (λ z. z .verdict) (sym (e .answer)) ∙ a),
+    )
+led-alike (both-write {u = u} {v = v} l w row offset width value c r r′ left left′ e e′) =
+    let (same, b) = led-alike l in
+    let e″ : Writes w row (inProfile 1 u) offset width value r′ left′ = subst (λ x. Writes w row x offset width value r′ left′) same e′ in (
+      ap (λ x. x .unit) (alike u b .writes w row offset width value c r r′ left left′ e e″ .0),
+      base-as-01 u b .stays-base w row offset width value r left e,
+    )
+
+pub profiles-alike : {k : ItsConfig} {u v : ItsState} → LedAlike k u v → AnswerAlike u v
+profiles-alike {u = u} l =
+    let (same, b) = led-alike l in
+    subst (AnswerAlike u) (sym same) (alike u b)
+
+pub verdicts-alike : (k : ItsConfig) (c c′ : Configured) → Configures (withProfile k 0) c → Configures (withProfile k 1) c′ → c′ .verdict ≡ c .verdict
+verdicts-alike k c c′ e e′ = ap (λ z. z .verdict) (e′ .answer) ∙ (same-verdict k ∙ ap (λ z. z .verdict) (sym (e .answer)))

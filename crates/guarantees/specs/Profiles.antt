@@ -1,0 +1,107 @@
+-- Document 02, A3, over the contracts of the entries and of the C calls, and over the records of a trace. A base unit is document 01's, as if there were no
+-- profile; and where the profiles agree (model: Common) both answer alike, over whole runs.
+-- Assumes nothing.
+use Prim.Native.Nat.{ℕ}
+use mathlib.Core.Path.{_≡_}
+use mathlib.Core.List.{List, [], _∷_, map}
+use Rattle.model.specs.declared.ItsDeviceId.{ItsDeviceId}
+use Rattle.model.specs.declared.EventId.{EventId}
+use Rattle.model.specs.declared.ItsConfig.{ItsConfig}
+use Rattle.model.specs.declared.ItsState.{ItsState}
+use Rattle.model.specs.declared.ItsAction.{ItsAction}
+use Rattle.model.specs.declared.Verdict.the-variants.{Accepted}
+use Rattle.model.specs.declared.ReadAnswer.{ReadAnswer}
+use Rattle.model.specs.declared.TranslateAnswer.{TranslateAnswer}
+use Rattle.model.specs.declared.Configured.{Configured}
+use Rattle.model.specs.declared.Written.{Written}
+use Rattle.model.specs.With.{withProfile}
+use Rattle.model.specs.Refusal.{verdictNumber, readNumbers, translateNumbers}
+use Rattle.model.specs.Queue.{Window}
+use Rattle.model.specs.Entry.{Outcome, stores}
+use Rattle.model.specs.In01.{configureIn01, readIn01, translateIn01, writeIn01}
+use Rattle.model.specs.Common.{inProfile, CommonWrite}
+use Rattle.model.specs.Trace.{Record, CF, GM, RD, WR, TR, Running, line, readLine, translateLine, writeLines, lentRow, linesOf}
+use Rattle.its.specs.Contracts.{Configures, Reads, Writes, Translates}
+use Rattle.host.specs.Calls.{Tells, numbersOfRead, numbersOfWrite, numbersOfTranslation, actionIn, CallReads, CallWrites, CallTranslates}
+use Rattle.guarantees.specs.MappingsInForce.{OfWritesTo}
+
+-- the run of a trace that stands at this unit, with this window
+abbrev pub standing : ItsState → Window → Running
+standing u w = record { unit = u; window = w }
+
+-- A BASE UNIT IS DOCUMENT 01'S (model: In01).
+
+-- the lines of a record, from what 01's unit answers
+abbrev pub linesIn01 : Running → Record → List (List ℕ)
+linesIn01 s (CF k) = line "CF" (verdictNumber (configureIn01 k .verdict) ∷ []) ∷ []
+linesIn01 s (GM w) = line "GM" (0 ∷ []) ∷ []
+linesIn01 s (RD offset width) = readLine (readNumbers (readIn01 (s .unit) offset width)) ∷ []
+linesIn01 s (WR offset width value) = writeLines (writeIn01 (s .window) lentRow (s .unit) offset width value)
+linesIn01 s (TR d e) = translateLine (translateNumbers (translateIn01 (s .unit) d e)) ∷ []
+
+-- a record whose configuration, if it has one, is in base
+abbrev pub InBase : Record → Type 0
+InBase (CF k) = k .profile ≡ 0
+InBase (GM w) = Unit {0}
+InBase (RD offset width) = Unit {0}
+InBase (WR offset width value) = Unit {0}
+InBase (TR d e) = Unit {0}
+
+-- To every access the unit u answers what 01's unit answers, and leaves what that leaves.
+pub record As01 (u : ItsState) : Type 0 where
+  pub reads : (offset width : ℕ) (r : ReadAnswer) → Reads u offset width r → r ≡ readIn01 u offset width
+  pub translates : (d : ItsDeviceId) (e : EventId) (r : TranslateAnswer) → Translates u d e r → r ≡ translateIn01 u d e
+  pub writes : OfWritesTo u (λ w row offset width value r left.
+      (r ≡ writeIn01 w row u offset width value .written) × (left ≡ writeIn01 w row u offset width value .row))
+  -- it stays a base unit, so the next access finds it as this one did
+  pub stays-base : OfWritesTo u (λ w row offset width value r left. r .unit .config .profile ≡ 0)
+  -- the C calls tell the same
+  pub call-reads : (offset width r : ℕ) (told : List ℕ) → CallReads u offset width r told → Tells (numbersOfRead (readIn01 u offset width)) r told
+  pub call-translates : (device event r : ℕ) (told : List ℕ) → CallTranslates u device event r told →
+      Tells (numbersOfTranslation (translateIn01 u (record { 0 = device }) (record { 0 = event }))) r told
+  pub call-writes : (w : Window) (row : List ℕ) (offset width value : ℕ) (left : ItsState) (after : List ℕ) (r : ℕ) (told : List ℕ) →
+      CallWrites w row u offset width value left after r told →
+      (left ≡ writeIn01 w (map actionIn row) u offset width value .written .unit)
+      × (map actionIn after ≡ writeIn01 w (map actionIn row) u offset width value .row)
+      × Tells (numbersOfWrite (writeIn01 w (map actionIn row) u offset width value .written .answer)) r told
+  -- and a record of a trace has the same lines
+  pub records : (w : Window) (r : Record) → InBase r → linesOf (standing u w) r ≡ linesIn01 (standing u w) r
+
+-- WHERE THE PROFILES AGREE.
+
+-- `LedAlike k u v`: configured with k in base and in strict, the same accesses led to the unit u and to the unit v. Reads and translations leave a unit as
+-- it is; each write was one on which the profiles agree, seen from the base unit.
+pub data LedAlike (k : ItsConfig) : ItsState → ItsState → Type 0 where
+  both-begin : (c c′ : Configured) → Configures (withProfile k 0) c → Configures (withProfile k 1) c′ → c .verdict ≡ Accepted → LedAlike k (c .unit) (c′ .unit)
+  both-write : {u v : ItsState} → LedAlike k u v → (w : Window) (row : List ItsAction) (offset width value : ℕ) → CommonWrite w u (stores row u offset width value) →
+      (r r′ : Written) (left left′ : List ItsAction) → Writes w row u offset width value r left → Writes w row v offset width value r′ left′ →
+      LedAlike k (r .unit) (r′ .unit)
+
+-- a record whose write, if it is one, is one on which they agree
+abbrev pub CommonRecord : Running → Record → Type 0
+CommonRecord s (CF k) = Unit {0}
+CommonRecord s (GM w) = Unit {0}
+CommonRecord s (RD offset width) = Unit {0}
+CommonRecord s (WR offset width value) = CommonWrite (s .window) (s .unit) (stores lentRow (s .unit) offset width value)
+CommonRecord s (TR d e) = Unit {0}
+
+-- BOTH ANSWER ALIKE, the base unit u and the strict unit v.
+pub record AnswerAlike (u v : ItsState) : Type 0 where
+  -- they hold the same: registers, devices, collections and translations
+  pub same : v ≡ inProfile 1 u
+  pub reads : (offset width : ℕ) (r r′ : ReadAnswer) → Reads u offset width r → Reads v offset width r′ → r′ ≡ r
+  pub translates : (d : ItsDeviceId) (e : EventId) (r r′ : TranslateAnswer) → Translates u d e r → Translates v d e r′ → r′ ≡ r
+  -- a write on which they agree: the same answer and row, and the same unit but for the profile
+  pub writes : (w : Window) (row : List ItsAction) (offset width value : ℕ) → CommonWrite w u (stores row u offset width value) →
+      (r r′ : Written) (left left′ : List ItsAction) → Writes w row u offset width value r left → Writes w row v offset width value r′ left′ →
+      (r′ ≡ record { unit = inProfile 1 (r .unit); answer = r .answer }) × (left′ ≡ left)
+  -- the C calls
+  pub call-reads : (offset width r r′ : ℕ) (told told′ : List ℕ) → CallReads u offset width r told → CallReads v offset width r′ told′ → (r′ ≡ r) × (told′ ≡ told)
+  pub call-translates : (device event r r′ : ℕ) (told told′ : List ℕ) → CallTranslates u device event r told → CallTranslates v device event r′ told′ →
+      (r′ ≡ r) × (told′ ≡ told)
+  pub call-writes : (w : Window) (row : List ℕ) (offset width value : ℕ) → CommonWrite w u (stores (map actionIn row) u offset width value) →
+      (left left′ : ItsState) (after after′ : List ℕ) (r r′ : ℕ) (told told′ : List ℕ) →
+      CallWrites w row u offset width value left after r told → CallWrites w row v offset width value left′ after′ r′ told′ →
+      (left′ ≡ inProfile 1 left) × (after′ ≡ after) × (r′ ≡ r) × (told′ ≡ told)
+  -- and the records of a trace
+  pub records : (w : Window) (r : Record) → CommonRecord (standing u w) r → linesOf (standing v w) r ≡ linesOf (standing u w) r

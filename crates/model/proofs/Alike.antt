@@ -1,0 +1,281 @@
+-- Where the profiles agree (specs/Common.antt) the strict unit answers what the base unit does, and leaves the same but for the profile.
+-- Assumes nothing.
+use Prim.Native.Nat.{ℕ, zero, suc, _≤_, _<_}
+use native.Mathlib.Omega.{arith}
+use mathlib.Core.Path.{_≡_, refl, sym, ap, ap₂, _∙_}
+use mathlib.Core.Bool.{true, false}
+use mathlib.Core.List.{List, []}
+use mathlib.Core.Option.{Option, none, some}
+use lib.Dec.{leb, eqb}
+use borrow.Author.Tests.{le-leb, eqb-true, eqb-false, leb-true}
+use Rattle.model.specs.declared.ItsDeviceId.{ItsDeviceId}
+use Rattle.model.specs.declared.EventId.{EventId}
+use Rattle.model.specs.declared.CollectionId.{CollectionId}
+use Rattle.model.specs.declared.Translation.{Translation}
+use Rattle.model.specs.declared.ItsConfig.{ItsConfig}
+use Rattle.model.specs.declared.ItsRegisters.{ItsRegisters}
+use Rattle.model.specs.declared.ItsState.{ItsState}
+use Rattle.model.specs.declared.ItsAction.{ItsAction}
+use Rattle.model.specs.declared.Register.{Register}
+use Rattle.model.specs.declared.Register.the-variants.{Ctlr, Iidr, Typer, Cbaser, Cwriter, Creadr, Baser, Reserved}
+use Rattle.model.specs.declared.RegisterWrite.{RegisterWrite}
+use Rattle.model.specs.declared.Command.{Command}
+use Rattle.model.specs.declared.Command.the-variants.{Mapd, Mapc, Mapti, Mapi, Movi, Int, Clear, Discard, Inv, Invall, Sync}
+use Rattle.model.specs.declared.Decoded.{Decoded}
+use Rattle.model.specs.declared.Decoded.the-variants.{Known, Unknown}
+use Rattle.model.specs.declared.Refusal.the-variants.{Unsound, NotInWindow}
+use Rattle.model.specs.declared.Verdict.{Verdict}
+use Rattle.model.specs.declared.Verdict.the-variants.{Accepted, Refused}
+use Rattle.model.specs.Choose.{if_then_else_, ifFound}
+use Rattle.model.specs.Arm.{_of_, CBASER·Valid}
+use Rattle.model.specs.With.{withRegisters, withProfile}
+use Rattle.model.specs.Profile.{strict}
+use Rattle.model.specs.Config.{listed, sizesIn01, soundConfig}
+use Rattle.model.specs.Decode.{opcodeOf, decode}
+use Rattle.model.specs.Step.{translationOf, deliveryIn, lpiInRange, checkMapping, checkIn01, storeDevice, storeCollection, storeTranslation, dropDevice, dropCollection, dropPair, movePair, effectIn01, actionsOn, actionsOf}
+use Rattle.model.specs.Queue.{Window, commandAt, waiting, commandAddress, Turn, passes, stays, judged, turn, carryOut, Ran, ended, andThen, goOn, run, held, mayRun, runQueue}
+use Rattle.model.specs.Passed.{commandHere}
+use Rattle.model.specs.Register.{registerAt, readOf, valueWritten}
+use Rattle.model.specs.Access.{checkAccess, checkRead, checkWrite}
+use Rattle.model.specs.Writing.{registerWrite}
+use Rattle.model.specs.Entry.{Outcome, afterRun, readFrom, read, translate, running, concluded, stores, configure, write}
+use Rattle.model.specs.In01.{turnOnIn01, turnIn01, carryOutIn01}
+use Rattle.model.specs.Common.{inProfile, Common, CommonRun, CommonWrite}
+use Rattle.model.proofs.Cases.{cases, never}
+use Rattle.model.proofs.Answers.{queue-runs, queue-over, queue-off}
+use Rattle.model.proofs.Profiles.{Plain, plain-common, turn-in-01, carried-in-01, base-is, sizes-only, off-may, valid-may}
+
+-- 01's unit does the same with any number as its profile
+module _ (m : ℕ) (u : ItsState) where
+  same-check : (x : Command) → checkIn01 (inProfile m u) x ≡ checkIn01 u x
+  unfolding checkMapping lpiInRange listed deliveryIn
+  same-check (Mapd d bits true) = refl
+  same-check (Mapd d bits false) = refl
+  same-check (Mapc c p true) = refl
+  same-check (Mapc c p false) = refl
+  same-check (Mapti d e l c) = refl
+  same-check (Mapi d e c) = refl
+  same-check (Movi d e c) = refl
+  same-check (Int d e) = refl
+  same-check (Clear d e) = refl
+  same-check (Discard d e) = refl
+  same-check (Inv d e) = refl
+  same-check (Invall c) = refl
+  same-check Sync = refl
+
+  same-moved : (d : ItsDeviceId) (e : EventId) (c : CollectionId) (o : Option Translation) →
+      ifFound o (λ r. storeTranslation d e (r .lpi) c (inProfile m u)) (inProfile m u) ≡ inProfile m (ifFound o (λ r. storeTranslation d e (r .lpi) c u) u)
+  unfolding storeTranslation
+  same-moved d e c none = refl
+  same-moved d e c (some r) = refl
+
+  same-effect : (x : Command) → effectIn01 (inProfile m u) x ≡ inProfile m (effectIn01 u x)
+  unfolding storeDevice storeCollection storeTranslation dropDevice dropCollection dropPair movePair
+  same-effect (Mapd d bits true) = refl
+  same-effect (Mapd d bits false) = refl
+  same-effect (Mapc c p true) = refl
+  same-effect (Mapc c p false) = refl
+  same-effect (Mapti d e l c) = refl
+  same-effect (Mapi d e c) = refl
+  same-effect (Movi d e c) = same-moved d e c (translationOf u d e)
+  same-effect (Int d e) = refl
+  same-effect (Clear d e) = refl
+  same-effect (Discard d e) = refl
+  same-effect (Inv d e) = refl
+  same-effect (Invall c) = refl
+  same-effect Sync = refl
+
+  same-actions : (x : Command) → actionsOf (inProfile m u) x ≡ actionsOf u x
+  unfolding actionsOn deliveryIn
+  same-actions (Mapd d bits valid) = refl
+  same-actions (Mapc c p valid) = refl
+  same-actions (Mapti d e l c) = refl
+  same-actions (Mapi d e c) = refl
+  same-actions (Movi d e c) = refl
+  same-actions (Int d e) = refl
+  same-actions (Clear d e) = refl
+  same-actions (Discard d e) = refl
+  same-actions (Inv d e) = refl
+  same-actions (Invall c) = refl
+  same-actions Sync = refl
+
+  same-turn : (w : Window) → turnIn01 w (inProfile m u) ≡ turnIn01 w u
+  unfolding turnIn01
+  same-turn w = by-words (commandAt w (commandAddress (u .registers) (u .registers .creadr)))
+    where
+      by-decoded : (k : Decoded) (opcode : ℕ) → turnOnIn01 (inProfile m u) opcode k ≡ turnOnIn01 u opcode k
+      by-decoded (Known x) opcode = ap (λ v. judged v x opcode) (same-check x)
+      by-decoded (Unknown n) opcode = refl
+
+      by-words : (o : Option (List ℕ)) →
+          ifFound o (λ ws. turnOnIn01 (inProfile m u) (opcodeOf ws) (decode ws)) (stays NotInWindow 0) ≡ ifFound o (λ ws. turnOnIn01 u (opcodeOf ws) (decode ws)) (stays NotInWindow 0)
+      by-words none = refl
+      by-words (some ws) = by-decoded (decode ws) (opcodeOf ws)
+
+  same-carried : (x : Command) → carryOutIn01 (inProfile m u) x ≡ inProfile m (carryOutIn01 u x)
+  unfolding carryOutIn01
+  same-carried x = rw (same-effect x)
+
+  -- and an agreed command is one for both
+  same-common : (x : Command) → Common u x → Common (inProfile m u) x
+  same-common x c = record { small = c .small; not-again = c .not-again }
+
+-- what a run comes to, its unit with another profile
+abbrev ranIn : ℕ → Ran → Ran
+ranIn m r = record { unit = inProfile m (r .unit); done = r .done; actions = r .actions; stopped = r .stopped }
+
+module _ (m : ℕ) (w : Window) where
+  -- one step: both units meet the same command, of which 01 says all
+  common-step : (n : ℕ) (u : ItsState) → ((x : Command) → commandHere w (u .registers) ≡ some x → Common u x) →
+      ((x : Command) → turn w u ≡ passes x → run w n (inProfile m (carryOut u x)) ≡ ranIn m (run w n (carryOut u x))) →
+      (t : Turn) → turn w u ≡ t → goOn (inProfile m u) (turn w (inProfile m u)) (run w n) ≡ ranIn m (goOn u (turn w u) (run w n))
+  common-step n u c rest t e =
+      let here : (y : Command) → commandHere w (u .registers) ≡ some y → Plain u y = λ y q. plain-common u y (c y q) in
+      let there : (y : Command) → commandHere w (u .registers) ≡ some y → Plain (inProfile m u) y = λ y q. plain-common (inProfile m u) y (same-common m u y (c y q)) in
+      let turned : turn w (inProfile m u) ≡ t = turn-in-01 w (inProfile m u) there ∙ (same-turn m u w ∙ (sym (turn-in-01 w u here) ∙ e)) in
+      rw (turned, e) (by-turn t e turned here there)
+    where
+      by-turn : (t : Turn) → turn w u ≡ t → turn w (inProfile m u) ≡ t → ((y : Command) → commandHere w (u .registers) ≡ some y → Plain u y) →
+          ((y : Command) → commandHere w (u .registers) ≡ some y → Plain (inProfile m u) y) → goOn (inProfile m u) t (run w n) ≡ ranIn m (goOn u t (run w n))
+      by-turn (passes x) e turned here there =
+          let carried : carryOut (inProfile m u) x ≡ inProfile m (carryOut u x) =
+          carried-in-01 w (inProfile m u) there x turned ∙ (same-carried m u x ∙ ap (inProfile m) (sym (carried-in-01 w u here x e))) in
+          ap₂ (λ l v. andThen l (run w n v)) (same-actions m u x) carried ∙ ap (andThen (actionsOf u x)) (rest x e)
+      by-turn (stays r opcode) e turned here there = refl
+
+  -- the commands met after the first
+  later : (n : ℕ) (u : ItsState) → CommonRun w (suc n) u → (x : Command) → turn w u ≡ passes x → CommonRun w n (carryOut u x)
+  later n u c x e i h y q =
+      let same : run w (suc i) u .unit ≡ run w i (carryOut u x) .unit = ap (λ t. goOn u t (run w i) .unit) e in
+      let q′ : commandHere w (run w (suc i) u .unit .registers) ≡ some y = ap (λ v. commandHere w (v .registers)) same ∙ q in
+      rw same at (c (suc i) (omega arith) y q′)
+
+  common-run : (n : ℕ) (u : ItsState) → CommonRun w n u → run w n (inProfile m u) ≡ ranIn m (run w n u)
+  common-run zero u c = refl
+  common-run (suc n) u c = common-step n u (c 0 (omega arith)) (λ x e. common-run n (carryOut u x) (later n u c x e)) (turn w u) refl
+
+-- 01's sizes speak of no profile
+any-sizes : (k : ItsConfig) (m : ℕ) → sizesIn01 (withProfile k m) ≡ sizesIn01 k
+unfolding sizesIn01
+any-sizes k m = refl
+
+by-size : (n : ℕ) → (n ≡ 0 → ⊥) → 0 < n
+by-size zero h = absurd (h refl)
+by-size (suc n) h = omega arith
+
+-- THE STRICT UNIT BESIDE THE BASE UNIT u.
+module _ (u : ItsState) (b : u .config .profile ≡ 0) where
+  abbrev v : ItsState
+  v = inProfile 1 u
+
+  same-sizes : soundConfig (v .config) ≡ soundConfig (u .config)
+  same-sizes = sizes-only (v .config) refl ∙ (any-sizes (u .config) 1 ∙ sym (sizes-only (u .config) (base-is (u .config) b)))
+
+  same-read : (offset width : ℕ) (n : Register) → readOf (v .config) (u .registers) offset width n ≡ readOf (u .config) (u .registers) offset width n
+  same-read offset width Ctlr = refl
+  same-read offset width Iidr = refl
+  same-read offset width Typer = refl
+  same-read offset width Cbaser = refl
+  same-read offset width Cwriter = refl
+  same-read offset width Creadr = refl
+  same-read offset width (Baser n) = refl
+  same-read offset width Reserved = refl
+
+  same-value : (offset width value : ℕ) (n : Register) → valueWritten (v .config) (u .registers) offset width value n ≡ valueWritten (u .config) (u .registers) offset width value n
+  same-value offset width value Ctlr = refl
+  same-value offset width value Iidr = refl
+  same-value offset width value Typer = refl
+  same-value offset width value Cbaser = refl
+  same-value offset width value Cwriter = refl
+  same-value offset width value Creadr = refl
+  same-value offset width value (Baser n) = refl
+  same-value offset width value Reserved = refl
+
+  pub same-reads : (offset width : ℕ) → read v offset width ≡ read u offset width
+  unfolding readFrom checkRead checkAccess
+  same-reads offset width = rw (same-sizes, same-read offset width (registerAt offset))
+
+  pub same-translates : (d : ItsDeviceId) (e : EventId) → translate v d e ≡ translate u d e
+  unfolding translate deliveryIn
+  same-translates d e = rw same-sizes
+
+  pub same-stores : (row : List ItsAction) (offset width value : ℕ) → stores row v offset width value ≡ stores row u offset width value
+  unfolding registerWrite checkWrite checkAccess
+  same-stores row offset width value = rw (same-sizes, same-value offset width value (registerAt offset))
+
+  -- the run
+  module _ (w : Window) (r : ItsRegisters) where
+    abbrev u₁ : ItsState
+    u₁ = withRegisters u r
+
+    base-runs : r .enabled ≡ true → mayRun (u .config) r ≡ true
+    unfolding mayRun held
+    base-runs on = rw (on, b)
+
+    none-waits : (x : ItsState) → x .registers ≡ r → waiting r ≡ 0 → runQueue w x ≡ ended x none
+    unfolding runQueue
+    none-waits x e z = rw (e, z, le-leb 0 (x .config .«command_budget») (omega arith)) (cases (mayRun (x .config) r) (λ y. rw y) (λ n. rw n))
+
+    same-queue : (r .enabled ≡ true → 0 < waiting r → CBASER·Valid of r .cbaser ≡ 1) →
+        (r .enabled ≡ true → waiting r ≤ u .config .«command_budget» → CommonRun w (waiting r) u₁) → runQueue w (inProfile 1 u₁) ≡ ranIn 1 (runQueue w u₁)
+    same-queue bit63 c =
+        cases (r .enabled)
+        (λ on. cases (eqb (waiting r) 0)
+        (λ z. none-waits (inProfile 1 u₁) refl (eqb-true (waiting r) 0 z) ∙ sym (ap (ranIn 1) (none-waits u₁ refl (eqb-true (waiting r) 0 z))))
+        (λ n.
+        let some-wait : waiting r ≡ 0 → ⊥ = eqb-false (waiting r) 0 n in
+        let valid = bit63 on (by-size (waiting r) some-wait) in
+        cases (leb (waiting r) (u .config .«command_budget»))
+        (λ l. queue-runs w (inProfile 1 u₁) (valid-may (v .config) r on valid) l
+        ∙ (common-run 1 w (waiting r) u₁ (c on (leb-true _ _ l)) ∙ sym (ap (ranIn 1) (queue-runs w u₁ (base-runs on) l))))
+        (λ l. queue-over w (inProfile 1 u₁) (valid-may (v .config) r on valid) l ∙ sym (ap (ranIn 1) (queue-over w u₁ (base-runs on) l)))))
+        (λ off. queue-off w (inProfile 1 u₁) (off-may (v .config) r off) ∙ sym (ap (ranIn 1) (queue-off w u₁ (off-may (u .config) r off))))
+
+  -- a write: the same answer and row, and the unit with the strict profile
+  abbrev pub strictly : Outcome → Outcome
+  strictly o = record { written = record { unit = inProfile 1 (o .written .unit); answer = o .written .answer }; row = o .row }
+
+  same-run : (w : Window) (row : List ItsAction) (s : RegisterWrite) → CommonWrite w u s → s .runs ≡ true → running w (withRegisters v (s .registers)) row ≡ strictly (running w (withRegisters u (s .registers)) row)
+  unfolding running
+  same-run w row s c on = ap (λ q. afterRun q row) (same-queue w (s .registers) (c .bit63 on) (c .commands on))
+
+  same-end : (w : Window) (row : List ItsAction) (s : RegisterWrite) → CommonWrite w u s → concluded w row v s ≡ strictly (concluded w row u s)
+  same-end w row s c = cases (s .runs) (λ on. rw on (same-run w row s c on)) (λ off. rw off)
+
+  pub same-writes : (w : Window) (row : List ItsAction) (offset width value : ℕ) → CommonWrite w u (stores row u offset width value) →
+      write w row v offset width value ≡ strictly (write w row u offset width value)
+  unfolding write
+  same-writes w row offset width value c = rw (same-stores row offset width value) (same-end w row (stores row u offset width value) c)
+
+  -- and the same actions
+  made-same : (w : Window) (s : RegisterWrite) → CommonWrite w u s → s .runs ≡ true →
+      runQueue w (withRegisters v (s .registers)) .actions ≡ runQueue w (withRegisters u (s .registers)) .actions
+  made-same w s c on = ap (λ q. q .actions) (same-queue w (s .registers) (c .bit63 on) (c .commands on))
+
+  pub same-made : (w : Window) (row : List ItsAction) (offset width value : ℕ) → CommonWrite w u (stores row u offset width value) →
+      (if stores row v offset width value .runs then runQueue w (withRegisters v (stores row v offset width value .registers)) .actions else [])
+      ≡ (if stores row u offset width value .runs then runQueue w (withRegisters u (stores row u offset width value .registers)) .actions else [])
+  same-made w row offset width value c =
+      let s = stores row u offset width value in
+      rw (same-stores row offset width value) (cases (s .runs) (λ on. rw on (made-same w s c on)) (λ off. rw off))
+
+-- a configuration of both is accepted or refused, and what is accepted is the same fresh unit
+pub same-verdict : (k : ItsConfig) → configure (withProfile k 1) .verdict ≡ configure (withProfile k 0) .verdict
+unfolding configure
+same-verdict k =
+    rw (sizes-only (withProfile k 1) refl, sizes-only (withProfile k 0) refl, any-sizes k 1, any-sizes k 0)
+    (cases (sizesIn01 k) (λ y. rw y) (λ n. rw n))
+
+pub same-fresh : (k : ItsConfig) → configure (withProfile k 0) .verdict ≡ Accepted → configure (withProfile k 1) .unit ≡ inProfile 1 (configure (withProfile k 0) .unit)
+unfolding configure
+same-fresh k a =
+    cases (sizesIn01 k)
+    (λ y. rw (sizes-only (withProfile k 1) refl, sizes-only (withProfile k 0) refl, any-sizes k 1, any-sizes k 0, y))
+    (λ n. let z : _≡_ {A = Verdict} (Refused Unsound) Accepted = rw (sizes-only (withProfile k 0) refl, any-sizes k 0, n) at a in never true refl (cc))
+
+pub fresh-base : (k : ItsConfig) → configure (withProfile k 0) .verdict ≡ Accepted → configure (withProfile k 0) .unit .config .profile ≡ 0
+unfolding configure
+fresh-base k a =
+    cases (sizesIn01 k)
+    (λ y. rw (sizes-only (withProfile k 0) refl, any-sizes k 0, y))
+    (λ n. rw (sizes-only (withProfile k 0) refl, any-sizes k 0, n))
