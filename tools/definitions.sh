@@ -1,6 +1,6 @@
 #!/bin/sh
-# The definitions of crates/model, run: antt computes the lines that they give for recorded traces, and each must be the Rust's answers, byte for
-# byte. The traces are those of crates/replay/data/recorded up to a size (the first argument, in bytes); a recording that ends at a 9, where the Rust is left,
+# The definitions of crates/model, run: antt computes the lines that they give for recorded traces, and each must be the recorded answers, byte for
+# byte: the Rust's, and those by hand of strict units. The traces are those of crates/replay/data/recorded up to a size (the first argument, in bytes); a recording that ends at a 9, where the Rust is left,
 # is passed over. Nothing is written into the repository: the checks stand in a copy of the crate.
 set -eu
 root=$(cd "$(dirname "$0")/.." && pwd)
@@ -50,4 +50,4 @@ if ! rt check "$work/model" >"$work/log" 2>&1; then
     grep -m 5 'Recorded.antt' "$work/log" | sed "s|^.*/model/||" | cut -c 1-200
     exit 1
 fi
-echo "definitions: each gives the Rust's lines"
+echo "definitions: each gives the recorded lines"

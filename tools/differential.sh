@@ -1,6 +1,7 @@
 #!/bin/sh
 # The C calls, compiled for the machine at hand, against the published Rust in one process: every line of generated and exhaustive traces, through
-# its_trace and through the calls for hosts; then damaged traces, outputs of every small length, and recorded answers.
+# its_trace and through the calls for hosts; the same for strict units, for each of which two units of the Rust stand in; then damaged traces, outputs
+# of every small length, and recorded answers.
 #   tools/differential.sh                   the part that the tests run
 #   tools/differential.sh TRACES [SEED]     as many generated traces as you like, from a seed on (0), and the exhaustive ones
 # The archives come from tools/archive.sh, unless ITS_ARCHIVE names a folder with a libtrace.a and a libhost.a to try. Where the published Rust is not at hand this
@@ -57,6 +58,9 @@ if [ -z "$with" ]; then
         say "generated and exhaustive traces${way:+, through the calls for hosts}"
         program $way run --traces "$traces" --from "$from" --exhaustive
         if [ $# -gt 0 ]; then cat "$log"; else sed '/^$/q' "$log"; fi
+        say "strict units${way:+, through the calls for hosts}"
+        program $way strict --traces "$traces" --from "$from" --exhaustive
+        cat "$log"
     done
 fi
 say "damaged traces"

@@ -109,14 +109,16 @@ def guarantees(page, wrong):
 
 def differences(page, wrong):
     """Part one: the tables, and an entry for each row but those of the last table. Part two: every entry in detail. Page one names the first kinds."""
-    tables, entries, details = [], [], []
+    tables, entries, details, told, strictly = [], [], [], {}, set()
     for line in page.split("\n"):
-        row = re.fullmatch(r"\| ([RS][0-9]+) \| (.*) \|", line)
-        if line == "| no. | difference |":
+        row = re.fullmatch(r"\| ([RS][0-9]+) \| ([^|]*) \| ([^|]*) \|", line)
+        if line == "| no. | difference | in strict |":
             tables.append({})
         elif row:
             any(row[1] in table for table in tables) and wrong(f"{row[1]} is in the tables twice")
             tables[-1][row[1]] = row[2]
+            told[row[1]] = row[3]
+            re.match("(mended|in part: .*|as in base(; .*|, and worse: .*)?|strict only)$", row[3]) or wrong(f"{row[1]}: what it is in strict is not said: {row[3]}")
     len(tables) == 6 or wrong(f"{len(tables)} tables, and not one for each kind")
     blocks = {"trace": {}, "lines": {}}
     entry = None
@@ -126,11 +128,11 @@ def differences(page, wrong):
         if kind is None:
             return wrong(f"{number} is in no table")
         touches = kind < len(tables) - 1
-        told = ["Arm", "The Rust", "The port"] if detailed else []
-        told += ["What happens"] if not detailed else []
-        told += ["For a recording"] if not detailed or not touches else []
-        told += ["How one would notice it", "What to ask"] if not detailed and kind < 3 else []
-        parts == told or wrong(f"{number} has the parts {parts} and not {told}")
+        due = ["Arm", "The Rust", "The port"] if detailed else []
+        due += ["What happens"] if not detailed else []
+        due += ["For a recording"] if not detailed or not touches else []
+        due += ["How one would notice it", "What to ask"] if not detailed and kind < 3 else []
+        parts == due or wrong(f"{number} has the parts {parts} and not {due}")
         tables[kind][number] == title or wrong(f"{number}: the titles differ")
         traces == lines or wrong(f"{number}: a trace without lines, or lines without a trace")
         if detailed:
@@ -164,6 +166,8 @@ def differences(page, wrong):
                 entry["title"] = piece.strip("*").removesuffix(".")
             entry["parts"] += re.findall(r"^- \*\*(Arm|The Rust|The port|What happens|For a recording|How one would notice it|What to ask)\b[^*]*\.\*\* ", piece)
             entry["excused"] |= piece.startswith("No trace can show ")
+            if piece.startswith("- **In strict.** "):
+                strictly.add(entry["number"])
     listed = [number for table in tables[:-1] for number in table]
     entries == listed or wrong("part one does not follow its tables:\n" + "\n".join(difflib.unified_diff(listed, entries, "tables", "entries", n=0, lineterm="")))
     every = sorted(number for table in tables for number in table)
@@ -177,6 +181,8 @@ def differences(page, wrong):
     for pattern in "oracle/traces/difference-*.txt", f"{RECORDED}/difference-*.expect":
         for path in sorted(glob.glob(pattern)) or [pattern]:
             path.split("/")[-1].rsplit(".", 1)[0] in blocks["trace"] or wrong(f"{path} is not in it")
+    for number, said in told.items():
+        said in ("as in base", "strict only") or number in strictly or wrong(f"{number} is {said}, and has no paragraph that says so")
     for ten, sixteen in re.findall("([0-9]+) is 0x([0-9A-Fa-f]+)", page):
         int(ten) == int(sixteen, 16) or wrong(f"{ten} is not 0x{sixteen}")
     return f"{len(every)} entries, {len(blocks['trace'])} of them with a trace, as in the files"
@@ -198,11 +204,21 @@ def facts(page, wrong):
 
 
 def visit(page, wrong):
-    blocks = [piece for piece in pieces(page) if isinstance(piece, tuple)]
-    for name in "second-visit", "second-visit-unmapped", "second-visit-new-tables":
-        for kind, path in ("trace", f"oracle/traces/{name}.txt"), ("lines", f"{RECORDED}/{name}.expect"):
-            held(wrong, "".join(text or "" for head, text in blocks if head == f"```{kind} {name}"), path)
-    return "three traces and their lines, as in the files"
+    """A block may be of two traces, where both have these steps or these lines: its first line names both."""
+    blocks = [(head[3:].split(), text or "") for head, text in (piece for piece in pieces(page) if isinstance(piece, tuple))]
+
+    def of(kind, name):
+        return "".join(text for (which, *names), text in blocks if which == kind and name in names)
+
+    both = "second-visit-unmapped", "second-visit-new-tables"
+    for name in "second-visit", *both, "strict/second-visit-strict", "strict/second-visit-strict-ending", "strict/strict-not-mended":
+        held(wrong, of("trace", name.split("/")[-1]), f"oracle/traces/{name}.txt")
+        held(wrong, of("lines", name.split("/")[-1]), f"{RECORDED}/{name.split('/')[-1]}.expect")
+    for name in both:  # the page has the steps once, and says that both profiles answer them alike
+        held(wrong, of("lines", f"{name}-strict"), f"{RECORDED}/{name}-strict.expect")
+        steps, strict = ([line for line in read(path).split("\n") if not line.startswith("#")] for path in (f"oracle/traces/{name}.txt", f"oracle/traces/strict/{name}-strict.txt"))
+        steps == [line.replace(" profile=strict", "") for line in strict] or wrong(f"{name}-strict has other steps")
+    return "eight traces and their lines, as in the files"
 
 
 def refusals(header, wrong):

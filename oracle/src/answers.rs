@@ -23,10 +23,27 @@ pub struct Answers {
     /// The run stopped at a 9: its line and its actions are the last, and a
     /// comparison ends there.
     pub ended_at_nine: bool,
+    /// The run stopped at a configuration that starts a strict unit, which the
+    /// Rust does not have: its line is the last, and a comparison ends there.
+    pub ended_at_strict: bool,
     /// Refused writes that were run once more, up to the refused command.
     pub again: u64,
     /// Calls answered without the Rust, for 01 puts them outside the domain.
     pub around: Around,
+}
+
+impl Answers {
+    /// Where the Rust is left, in words, where the trace may go on after its
+    /// lines.
+    pub fn left(&self) -> Option<&'static str> {
+        if self.ended_at_nine {
+            Some("a 9")
+        } else if self.ended_at_strict {
+            Some("a strict configuration")
+        } else {
+            None
+        }
+    }
 }
 
 #[derive(Clone, Copy, Debug, Default, Eq, PartialEq)]
@@ -96,6 +113,10 @@ pub fn watched_answers(trace: &[u8], watcher: &mut impl Watcher) -> Answers {
             answers.ended_at_nine = true;
             break;
         }
+        if matches!(&record, Record::Cf(configuration) if configuration.starts_strict()) {
+            answers.ended_at_strict = true;
+            break;
+        }
         past.keep(record);
     }
     answers
@@ -113,7 +134,7 @@ impl Run {
         match record {
             Record::Cf(configuration) => {
                 self.unit = Unit::configure(configuration, self.window.clone());
-                Answer::Cf(u8::from(self.unit.is_none()))
+                Answer::Cf(u8::from(!configuration.accepted()))
             }
             Record::Gm { address, bytes } => {
                 self.window.replace(*address, bytes);
@@ -214,7 +235,7 @@ pub(crate) fn put_answer(lines: &mut Vec<u8>, answer: &Answer, form: Form) {
     }
 }
 
-fn put_malformed(lines: &mut Vec<u8>, malformed: &Malformed) {
+pub(crate) fn put_malformed(lines: &mut Vec<u8>, malformed: &Malformed) {
     put(lines, format_args!("?? {}", malformed.offset));
 }
 

@@ -5,18 +5,24 @@
 //! answers, which is what 02 demands; and as it is, against the reasons that the
 //! Rust's own texts tell and the actions that it gives when run up to the refused
 //! command.
+//!
+//! What is compared is answered by base units, for the Rust has no others. 27, which
+//! only a strict unit has, is folded as the other reasons are; one of them among
+//! those lines is a difference by itself.
 
 use crate::answers::Answers;
 use crate::lines::{count, first, first_difference, first_with_actions, is_action};
+use crate::record::DEVICE_TOO_LARGE;
 use crate::room::{MOST_OUTPUT, returned, written};
 
 /// The refusals that a command's own checks have in place of 01's 7: opcode
 /// unknown, LPI out of range, device unmapped, event beyond the bits, collection
-/// unmapped, pair unmapped, processor not listed.
-pub const REASONS: [u8; 7] = [20, 21, 22, 23, 24, 25, 26];
+/// unmapped, pair unmapped, processor not listed, and a strict unit's device too
+/// large.
+pub const REASONS: [u8; 8] = [20, 21, 22, 23, 24, 25, 26, DEVICE_TOO_LARGE];
 
-/// The refusals of a command, before which a write can have actions. Others come
-/// before any command is carried out.
+/// The refusals of a base unit's command, before which a write can have actions.
+/// Others come before any command is carried out.
 pub const OF_A_COMMAND: [u8; 10] = [6, 8, 9, 20, 21, 22, 23, 24, 25, 26];
 
 /// How often each of the reasons was folded into 7, and what was set aside
@@ -39,6 +45,12 @@ impl Folded {
     /// Each reason with its count, in order.
     pub fn counts(&self) -> impl Iterator<Item = (u8, u64)> {
         REASONS.into_iter().zip(self.reasons)
+    }
+
+    /// How often one of the reasons was folded.
+    pub fn of(&self, reason: u8) -> u64 {
+        let counted = self.counts().find(|(listed, _)| *listed == reason);
+        counted.map_or(0, |(_, count)| count)
     }
 
     /// How many were folded in all.
@@ -173,7 +185,8 @@ fn number(word: &[u8]) -> Option<u64> {
 /// the lines that the Rust tells; where not all of them fit, the first folded
 /// lines are compared, as many as there are. Where the Rust's run ended at a 9 the
 /// lines up to and with that one and its actions are compared, and what the other
-/// call wrote after them is left alone.
+/// call wrote after them is left alone; so it is where it ended at a strict
+/// configuration.
 pub fn difference(
     answers: &Answers,
     output: usize,
@@ -182,14 +195,19 @@ pub fn difference(
 ) -> Result<Folded, String> {
     let Answers { lines, told, .. } = answers;
     let all_fit = told.len() <= output.min(MOST_OUTPUT);
-    let open = answers.ended_at_nine && all_fit;
+    let open = answers.left().is_some() && all_fit;
     let bytes = if open {
         first_with_actions(count(told), bytes)
     } else {
         bytes
     };
 
+    let as_it_is = first_difference(bytes, &told[..written(told, output)]);
     let (all_folded, folded) = fold(bytes);
+    if folded.of(DEVICE_TOO_LARGE) > 0 {
+        let difference = as_it_is.unwrap_or_default();
+        return Err(format!("a base unit answers 27, {difference}"));
+    }
     // Where actions are missing, lines from behind the 9 are among the bytes.
     let folded_lines = if open {
         first_with_actions(count(lines), &all_folded)
@@ -203,10 +221,10 @@ pub fn difference(
     };
     if let Some(difference) = first_difference(folded_lines, kinds) {
         return Err(format!(
-            "with 20 to 26 folded into 7 and the actions of refused writes set aside, {difference}"
+            "with 20 to 27 folded into 7 and the actions of refused writes set aside, {difference}"
         ));
     }
-    if let Some(difference) = first_difference(bytes, &told[..written(told, output)]) {
+    if let Some(difference) = as_it_is {
         return Err(format!(
             "by the reasons and actions that the Rust tells, {difference}"
         ));

@@ -35,6 +35,7 @@ pub struct Coverage {
     traces: u64,
     records: u64,
     ended_at_nine: u64,
+    ended_at_strict: u64,
     around: crate::answers::Around,
 }
 
@@ -68,6 +69,7 @@ impl Default for Coverage {
             traces: 0,
             records: 0,
             ended_at_nine: 0,
+            ended_at_strict: 0,
             around: crate::answers::Around::default(),
         }
     }
@@ -83,6 +85,7 @@ impl Coverage {
         }
         let answers = watched_answers(trace, self);
         self.ended_at_nine += u64::from(answers.ended_at_nine);
+        self.ended_at_strict += u64::from(answers.ended_at_strict);
         self.around.add(&answers.around);
         answers
     }
@@ -93,18 +96,20 @@ impl Coverage {
         self.traces += other.traces;
         self.records += other.records;
         self.ended_at_nine += other.ended_at_nine;
+        self.ended_at_strict += other.ended_at_strict;
         self.around.add(&other.around);
     }
 
     /// The counts as lines of text.
     pub fn report(&self) -> String {
         format!(
-            "{} traces, {} records; {} runs ended at a 9\n\
+            "{} traces, {} records; {} runs ended at a 9, {} at a strict configuration\n\
              answered without the Rust: {} before a configuration, {} of another width, \
              {} at the identification registers\n\n{}",
             self.traces,
             self.records,
             self.ended_at_nine,
+            self.ended_at_strict,
             self.around.unconfigured,
             self.around.other_width,
             self.around.identification,

@@ -2,19 +2,29 @@
 
 use crate::answers::answers;
 use crate::exhaustive::{self, Named};
-use crate::generate::trace_for;
+use crate::generate::{strict_trace_for, trace_for};
 
 /// The traces of the first seeds.
 pub fn seeds(count: u64) -> impl Iterator<Item = Named> {
     (0..count).map(|seed| (format!("seed-{seed}"), trace_for(seed)))
 }
 
-/// The trace of a seed's name or of an exhaustive trace's.
+/// The traces of the first seeds, from guests of strict units.
+pub fn strict_seeds(count: u64) -> impl Iterator<Item = Named> {
+    (0..count).map(|seed| (format!("strict-seed-{seed}"), strict_trace_for(seed)))
+}
+
+/// The trace of a seed's name or of an exhaustive trace's, `strict-` in front if its
+/// units are strict.
 pub fn trace_named(name: &str) -> Option<Vec<u8>> {
     if let Some(seed) = name.strip_prefix("seed-") {
         return seed.parse().ok().map(trace_for);
     }
+    if let Some(seed) = name.strip_prefix("strict-seed-") {
+        return seed.parse().ok().map(strict_trace_for);
+    }
     exhaustive::traces()
+        .chain(exhaustive::strict())
         .find(|(found, _)| found == name)
         .map(|(_, trace)| trace)
 }

@@ -1,7 +1,7 @@
 //! A trace written record by record.
 
 use crate::fields::{Words, bytes_of};
-use crate::record::{Configuration, Record};
+use crate::record::{BASE, Configuration, Record};
 
 #[derive(Clone, Debug, Default)]
 pub struct Draft(pub Vec<u8>);
@@ -12,11 +12,13 @@ impl Draft {
         self
     }
 
+    /// A configuration of the base profile.
     pub fn cf(&mut self, limit: u32, budget: u32, frame: u32, processors: &[u16]) -> &mut Self {
         self.record(&Record::Cf(Configuration {
             limit,
             budget,
             frame,
+            profile: BASE,
             processors: processors.to_vec(),
         }))
     }

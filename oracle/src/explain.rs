@@ -1,6 +1,7 @@
 //! A trace as text with its answers as comments, the Rust's own words for each
 //! refusal of a write beside the number that they tell, and where the actions of
-//! a refused write come from. It still assembles to the same trace.
+//! a refused write come from. It still assembles to the same trace, as far as that
+//! was run.
 
 use arm_vgic::VgicError;
 
@@ -11,7 +12,10 @@ use crate::unit::{Unit, Written};
 
 pub fn explain(trace: &[u8]) -> String {
     let mut explained = Explained::default();
-    watched_answers(trace, &mut explained);
+    let answers = watched_answers(trace, &mut explained);
+    if let Some(left) = answers.left() {
+        explained.text += &format!("#   (the run ends at {left}, which the Rust does not have)\n");
+    }
     explained.text
 }
 

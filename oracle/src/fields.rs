@@ -17,6 +17,9 @@ pub const INV: u8 = 0x0c;
 pub const INVALL: u8 = 0x0d;
 pub const DISCARD: u8 = 0x0f;
 
+/// The opcodes that name a device. Of the others, bits 63:32 of w0 mean nothing.
+pub const NAME_A_DEVICE: [u8; 8] = [MAPD, MAPTI, MAPI, MOVI, INT, CLEAR, DISCARD, INV];
+
 #[derive(Clone, Copy, Debug, Eq, PartialEq)]
 pub struct Fields {
     pub opcode: u8,

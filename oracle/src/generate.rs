@@ -13,6 +13,7 @@ mod picks;
 pub mod random;
 mod ring;
 
+use crate::record::{BASE, STRICT};
 use families::FAMILIES;
 use random::Random;
 
@@ -21,6 +22,15 @@ pub const PLACES: u64 = FAMILIES.len() as u64;
 
 /// The trace of a seed.
 pub fn trace_for(seed: u64) -> Vec<u8> {
+    with_profile(seed, BASE)
+}
+
+/// The trace of a seed, from a guest of strict units.
+pub fn strict_trace_for(seed: u64) -> Vec<u8> {
+    with_profile(seed, STRICT)
+}
+
+fn with_profile(seed: u64, profile: u8) -> Vec<u8> {
     let family = FAMILIES[(seed % PLACES) as usize];
-    family(Random::new(seed))
+    family(Random::new(seed), profile)
 }

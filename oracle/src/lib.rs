@@ -11,6 +11,7 @@ pub mod answers;
 pub mod command;
 #[cfg(feature = "published")]
 pub mod compare;
+pub mod convert;
 #[cfg(feature = "published")]
 pub mod coverage;
 #[cfg(feature = "published")]
@@ -29,6 +30,8 @@ pub mod record;
 #[cfg(feature = "published")]
 pub mod recorded;
 pub mod room;
+#[cfg(feature = "published")]
+pub mod strict;
 pub mod tables;
 pub mod text;
 #[cfg(feature = "published")]

@@ -5,16 +5,19 @@ use std::path::Path;
 use std::process::ExitCode;
 use std::{env, fs};
 
-use oracle::answers::answers;
+use oracle::answers::{Answers, answers};
 use oracle::coverage::Coverage;
 use oracle::exhaustive::{self, Named};
 use oracle::generate::trace_for;
+use oracle::recorded::Checked;
 use oracle::room::{PROGRAM_BUFFER, written};
-use oracle::{digests, edits, explain, recorded, text};
+use oracle::{digests, edits, explain, recorded, strict, text};
 
 const USAGE: &str = "usage: oracle COMMAND
   answer [FILE]     the Rust's answers to a trace, with the reasons and actions that it tells
   itstrace [FILE]   the same, within the limits of the program itstrace
+  strict [FILE]     the answers to a trace with strict units, for each of which two units
+                    of the Rust stand in
   assemble [FILE]   a trace from text
   list [FILE]       text from a trace
   explain [FILE]    text from a trace, with the answers and the Rust's reasons
@@ -24,7 +27,8 @@ const USAGE: &str = "usage: oracle COMMAND
   coverage [SEEDS]  what the traces of the first seeds reach
   edits             the names of the edits of the published Rust
   edit NAME FROM TO a copy of the published files with one edit made
-  record FOLDER     the fixed list of traces with the Rust's answers
+  record FOLDER     the fixed list of traces with the Rust's answers, and with those by
+                    hand to strict units, which the Rust does not have
   check FOLDER      every NAME.trace of a folder against its NAME.expect
 Without FILE, standard input is read.";
 
@@ -48,6 +52,7 @@ fn run(words: &[&str]) -> Result<(), String> {
     match words {
         ["answer", file @ ..] => answer(&input(file)?),
         ["itstrace", file @ ..] => itstrace(&input(file)?),
+        ["strict", file @ ..] => output(&strict::lines(&input(file)?).lines),
         ["assemble", file @ ..] => assemble(&input(file)?),
         ["list", file @ ..] => output(text::list(&input(file)?).as_bytes()),
         ["explain", file @ ..] => output(explain::explain(&input(file)?).as_bytes()),
@@ -65,8 +70,17 @@ fn run(words: &[&str]) -> Result<(), String> {
             output(format!("{traces} traces, {bytes} bytes with their answers\n").as_bytes())
         }
         ["check", folder] => {
-            let traces = recorded::check(Path::new(folder))?;
-            output(format!("{traces} traces answered as expected\n").as_bytes())
+            let Checked {
+                whole,
+                up_to_strict,
+            } = recorded::check(Path::new(folder))?;
+            let mut said = format!("{whole} traces answered as expected\n");
+            if up_to_strict > 0 {
+                said += &format!(
+                    "{up_to_strict} more up to a strict configuration, which the Rust does not have\n"
+                );
+            }
+            output(said.as_bytes())
         }
         _ => Err(USAGE.into()),
     }
@@ -75,18 +89,25 @@ fn run(words: &[&str]) -> Result<(), String> {
 fn answer(trace: &[u8]) -> Result<(), String> {
     let answers = answers(trace);
     output(&answers.told)?;
-    if answers.ended_at_nine {
-        eprintln!("oracle: the run ends at a 9, which the Rust does not have");
-    }
+    say_where_it_is_left(&answers);
     Ok(())
+}
+
+fn say_where_it_is_left(answers: &Answers) {
+    if let Some(left) = answers.left() {
+        eprintln!("oracle: the run ends at {left}, which the Rust does not have");
+    }
 }
 
 fn itstrace(trace: &[u8]) -> Result<(), String> {
     if trace.len() > PROGRAM_BUFFER {
         return output(b"LONG\n");
     }
-    let lines = answers(trace).told;
-    output(&lines[..written(&lines, PROGRAM_BUFFER)])
+    let answers = answers(trace);
+    let lines = &answers.told;
+    output(&lines[..written(lines, PROGRAM_BUFFER)])?;
+    say_where_it_is_left(&answers);
+    Ok(())
 }
 
 fn assemble(text: &[u8]) -> Result<(), String> {

@@ -1,7 +1,15 @@
-//! The records of a trace: their bytes out and in, as 01 lays them down.
+//! The records of a trace: their bytes out and in, as 01 lays them down, and with
+//! 02's profile in a CF.
 
 /// The longest window that a GM record may carry.
 pub const LONGEST_WINDOW: usize = 4096;
+
+/// The profiles: base is 01's way and the Rust's, strict is 02's.
+pub const BASE: u8 = 0;
+pub const STRICT: u8 = 1;
+
+/// The refusal that only a strict unit has: the command's device is too large.
+pub const DEVICE_TOO_LARGE: u8 = 27;
 
 #[derive(Clone, Debug, Eq, PartialEq)]
 pub enum Record {
@@ -17,18 +25,26 @@ pub struct Configuration {
     pub limit: u32,
     pub budget: u32,
     pub frame: u32,
+    pub profile: u8,
     pub processors: Vec<u16>,
 }
 
 impl Configuration {
-    /// Whether a configuration is accepted: 01's sizes, and no processor twice.
-    pub fn within_sizes(&self) -> bool {
+    /// Whether a configuration is accepted: 01's sizes, no processor twice, and a
+    /// profile that there is.
+    pub fn accepted(&self) -> bool {
         let processors = &self.processors;
         (8_192..=16_777_215).contains(&self.limit)
             && (1..=1_024).contains(&self.budget)
             && matches!(self.frame, 65_536 | 131_072)
+            && matches!(self.profile, BASE | STRICT)
             && (1..=16).contains(&processors.len())
             && (1..processors.len()).all(|later| !processors[..later].contains(&processors[later]))
+    }
+
+    /// Whether it starts a strict unit, which the Rust does not have.
+    pub fn starts_strict(&self) -> bool {
+        self.accepted() && self.profile == STRICT
     }
 }
 
@@ -43,6 +59,7 @@ impl Record {
                 trace.extend(configuration.limit.to_le_bytes());
                 trace.extend(configuration.budget.to_le_bytes());
                 trace.extend(configuration.frame.to_le_bytes());
+                trace.push(configuration.profile);
                 trace.push(count);
                 for processor in &configuration.processors {
                     trace.extend(processor.to_le_bytes());
@@ -157,12 +174,14 @@ impl<'a> Bytes<'a> {
         let limit = u32::from_le_bytes(self.number()?);
         let budget = u32::from_le_bytes(self.number()?);
         let frame = u32::from_le_bytes(self.number()?);
+        let profile = u8::from_le_bytes(self.number()?);
         let count = u8::from_le_bytes(self.number()?);
         let (numbers, _) = self.take(2 * usize::from(count))?.as_chunks::<2>();
         Ok(Configuration {
             limit,
             budget,
             frame,
+            profile,
             processors: numbers.iter().copied().map(u16::from_le_bytes).collect(),
         })
     }

@@ -4,6 +4,8 @@
 //!
 //! ```text
 //! cf limit=65535 budget=64 frame=65536 processors=0,1    (or processors=none)
+//! cf limit=65535 budget=64 frame=65536 profile=strict processors=0,1
+//!                                 (base where it is left out, or a number)
 //! gm 0x40000000                   the lines below it are the window's bytes:
 //!   mapd device=5 bits=4          a command by its name and fields
 //!   words 0x5 0 0 0               a command by its four words

@@ -7,7 +7,7 @@ use arm_vgic::{GicV3Controller, ItsDeviceId, VgicError};
 
 use crate::fields::{BYTES_OF_A_COMMAND, Fields, Words};
 use crate::reason;
-use crate::record::Configuration;
+use crate::record::{BASE, Configuration};
 use crate::tables::{Table, Tables};
 use crate::window::Window;
 
@@ -64,9 +64,10 @@ impl Written {
 }
 
 impl Unit {
-    /// A fresh unit, exactly if the configuration is within 01's sizes.
+    /// A fresh unit, exactly if the configuration is accepted and of the base
+    /// profile: the Rust has no other.
     pub fn configure(configuration: &Configuration, window: Arc<Window>) -> Option<Self> {
-        if !configuration.within_sizes() {
+        if !configuration.accepted() || configuration.profile != BASE {
             return None;
         }
         let config = GicV3Config::new(

@@ -27,6 +27,7 @@ struct Tried {
     cut: u64,
     folded: u64,
     aside: u64,
+    strict: u64,
 }
 
 /// Tries the damaged traces of the numbers from one on; an error is a fault of
@@ -68,6 +69,7 @@ pub fn damage(call: Call, from: u64, count: u64) -> Result<String, String> {
         all.cut += tried.cut;
         all.folded += tried.folded;
         all.aside += tried.aside;
+        all.strict += tried.strict;
     }
     Ok(all.summary(count, begun.elapsed().as_secs_f64()))
 }
@@ -84,9 +86,10 @@ impl Tried {
         if let Some(fault) = shape::fault(trace, &whole, cut) {
             return Err(fault);
         }
-        let (folded, aside) = rusts(trace, &whole, number)?;
-        self.folded += folded;
-        self.aside += aside;
+        let rusts = rusts(trace, &whole, number)?;
+        self.folded += rusts.folded;
+        self.aside += rusts.aside;
+        self.strict += u64::from(rusts.strict);
         let near = [whole.len().saturating_sub(1), whole.len(), whole.len() + 1];
         for length in (0..=SMALL).chain(near).chain(LARGE) {
             let (count, left) = rooms::fits(&whole, cut, length);
@@ -130,9 +133,11 @@ impl Tried {
             if cfg!(feature = "published") {
                 format!(
                     "; and every line as the published Rust gives it ({} answers folded into 7,\n\
-                     {} actions of refused writes set aside)",
+                     {} actions of refused writes set aside), up to a strict configuration in {} traces, and\n\
+                     as two units of it give it that stand in for a strict one",
                     grouped(self.folded),
                     grouped(self.aside),
+                    grouped(self.strict),
                 )
             } else {
                 String::new()
@@ -141,17 +146,29 @@ impl Tried {
     }
 }
 
-/// The lines are the Rust's; how many of them were folded, and how many actions
-/// of refused writes set aside.
+/// How far lines are the Rust's: how many of them were folded, how many actions of
+/// refused writes were set aside, and whether it is left at a strict configuration.
+#[derive(Default)]
+struct Rusts {
+    folded: u64,
+    aside: u64,
+    strict: bool,
+}
+
 #[cfg(feature = "published")]
-fn rusts(trace: &[u8], whole: &[u8], number: u64) -> Result<(u64, u64), String> {
+fn rusts(trace: &[u8], whole: &[u8], number: u64) -> Result<Rusts, String> {
     let answers = oracle::answers::answers(trace);
     let folded = oracle::compare::difference(&answers, MOST_OUTPUT, whole, number)?;
-    Ok((folded.all(), folded.all_aside().actions))
+    oracle::strict::lines(trace).difference(MOST_OUTPUT, whole, number)?;
+    Ok(Rusts {
+        folded: folded.all(),
+        aside: folded.all_aside().actions,
+        strict: answers.ended_at_strict,
+    })
 }
 
 /// The Rust is not at hand.
 #[cfg(not(feature = "published"))]
-fn rusts(_: &[u8], _: &[u8], _: u64) -> Result<(u64, u64), String> {
-    Ok((0, 0))
+fn rusts(_: &[u8], _: &[u8], _: u64) -> Result<Rusts, String> {
+    Ok(Rusts::default())
 }

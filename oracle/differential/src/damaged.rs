@@ -3,7 +3,7 @@
 
 use oracle::draft::Draft;
 use oracle::generate::random::Random;
-use oracle::generate::trace_for;
+use oracle::generate::{strict_trace_for, trace_for};
 
 /// The kinds of damage; a number goes round them.
 pub const KINDS: [&str; 7] = [
@@ -21,8 +21,13 @@ pub fn kind(number: u64) -> usize {
     (number % KINDS.len() as u64) as usize
 }
 
-/// The damaged trace of a number; the same number gives the same bytes.
+/// The damaged trace of a number; the same number gives the same bytes. Every
+/// fourth of a kind was one of strict units.
 pub fn damaged(number: u64) -> Vec<u8> {
+    let trace_for = match number / KINDS.len() as u64 % 4 {
+        3 => strict_trace_for,
+        _ => trace_for,
+    };
     let mut random = Random::new(number);
     let mut trace = trace_for(random.number());
     match kind(number) {
@@ -61,7 +66,7 @@ pub fn damaged(number: u64) -> Vec<u8> {
 fn random_records(random: &mut Random) -> Vec<u8> {
     let mut trace = Draft::example(65_536).0;
     for _ in 0..random.between(1, 60) {
-        let (mark, bytes) = random.pick(&[(b"RD", 9), (b"WR", 17), (b"TR", 8), (b"CF", 13)]);
+        let (mark, bytes) = random.pick(&[(b"RD", 9), (b"WR", 17), (b"TR", 8), (b"CF", 14)]);
         trace.extend(mark);
         let bytes = if random.once_in(50) { bytes - 1 } else { bytes };
         for place in 0..bytes {

@@ -42,11 +42,8 @@ pub fn report(call: Call, trace: &[u8]) -> String {
          The published Rust answers, with its reasons and the actions before a refusal{}:\n\n{}\n\
          The C call answers:\n\n{ours}",
         oracle::text::list(trace),
-        if rust.ended_at_nine {
-            ", up to a 9"
-        } else {
-            ""
-        },
+        rust.left()
+            .map_or_else(String::new, |left| format!(", up to {left}")),
         String::from_utf8_lossy(&rust.told),
     )
 }

@@ -3,6 +3,7 @@
 //! reason was met, and actions before every refusal of a command.
 
 use oracle::compare::Folded;
+use oracle::record::DEVICE_TOO_LARGE;
 
 use crate::numbers::grouped;
 use crate::run::Traces;
@@ -53,7 +54,9 @@ impl Foldings {
     /// what was.
     pub fn held_against(&self, traces: &Traces) -> Result<(), String> {
         let mut gaps = String::new();
-        let mut never_folded = zero(self.folded.counts());
+        // Only a strict unit has that one, and the comparison is with base ones.
+        let of_base = |(reason, _): &(u8, u64)| *reason != DEVICE_TOO_LARGE;
+        let mut never_folded = zero(self.folded.counts().filter(of_base));
         if self.moves == 0 {
             never_folded.push("a MOVI with neither its collection nor its pair mapped".into());
         }

@@ -16,4 +16,6 @@ pub mod run;
 pub mod shape;
 #[cfg(feature = "published")]
 pub mod shrink;
+#[cfg(feature = "published")]
+pub mod strict;
 pub mod workers;

@@ -13,6 +13,9 @@ const USAGE: &str = "usage: differential [--host] COMMAND
   run --traces N [--from SEED] [--exhaustive]
                        the C call and the published Rust on the traces of N seeds,
                        and on every exhaustive trace
+  strict --traces N [--from SEED] [--exhaustive]
+                       the same traces with strict units, against two units of the
+                       Rust that stand in for one
   damage --traces N [--from NUMBER]
                        the C call on damaged traces and outputs of many lengths
   recorded FOLDER ..   the C call on every NAME.trace against NAME.expect
@@ -26,7 +29,7 @@ fn main() -> ExitCode {
     let words: Vec<String> = env::args().skip(1).collect();
     let words: Vec<&str> = words.iter().map(String::as_str).collect();
     let answered = match words[..] {
-        ["run" | "damage", ..] | ["--host", "run" | "damage", ..]
+        ["run" | "strict" | "damage", ..] | ["--host", "run" | "strict" | "damage", ..]
             if env::var_os(AT_WORK).is_none() =>
         {
             return watched(&words);
@@ -84,7 +87,7 @@ fn main_of(words: &[&str]) -> Result<String, String> {
 fn through(way: Way, words: &[&str]) -> Result<String, String> {
     let (call, _) = way;
     match words {
-        ["run", options @ ..] => run(way, &Options::of(options)?),
+        ["run" | "strict", options @ ..] => run(words[0], way, &Options::of(options)?),
         ["damage", options @ ..] => {
             let options = Options::of(options)?;
             damage::damage(call, options.from, options.traces)
@@ -112,17 +115,20 @@ fn through(way: Way, words: &[&str]) -> Result<String, String> {
 }
 
 #[cfg(feature = "published")]
-fn run((call, name): Way, options: &Options) -> Result<String, String> {
+fn run(units: &str, (call, name): Way, options: &Options) -> Result<String, String> {
     let traces = differential::run::Traces {
         from: options.from,
         count: options.traces,
         exhaustive: options.exhaustive,
     };
-    differential::run::run(call, name, &traces)
+    match units {
+        "strict" => differential::strict::strict(call, name, &traces),
+        _ => differential::run::run(call, name, &traces),
+    }
 }
 
 #[cfg(not(feature = "published"))]
-fn run(_: Way, _: &Options) -> Result<String, String> {
+fn run(_: &str, _: Way, _: &Options) -> Result<String, String> {
     Err("built without the published Rust: nothing to compare with".into())
 }
 

@@ -29,6 +29,8 @@ struct Compared {
     coverage: Coverage,
     folded: Folded,
     again: u64,
+    /// Traces that are compared up to a strict configuration.
+    strict: u64,
     bytes: u64,
     lines: u64,
     commands: u64,
@@ -42,6 +44,7 @@ impl Compared {
         self.coverage.absorb(&other.coverage);
         self.folded.absorb(&other.folded);
         self.again += other.again;
+        self.strict += other.strict;
         self.bytes += other.bytes;
         self.lines += other.lines;
         self.commands += other.commands;
@@ -92,6 +95,7 @@ pub fn run(call: Call, name: &str, traces: &Traces) -> Result<String, String> {
             };
             compared.folded.absorb(&folded);
             compared.again += rust.again;
+            compared.strict += u64::from(rust.ended_at_strict);
             compared.bytes += trace.len() as u64;
             compared.count_lines(&rust.told);
             numbers.done();
@@ -161,11 +165,12 @@ impl Compared {
         };
         format!(
             "Compared: {call}, compiled for this machine, with the published Rust, in one\n\
-             process: every line, with 20 to 26 folded into 7 and the actions of refused writes set aside, and with\n\
+             process: every line, with 20 to 27 folded into 7 and the actions of refused writes set aside, and with\n\
              the reasons and actions that the Rust tells; the number returned, and that no byte beyond the written\n\
-             ones changed.\n\
+             ones changed. The units are base ones, none of which may answer 27.\n\
              {} traces of seeds {} to {last}, {} exhaustive traces; {} bytes of trace, {} lines,\n\
              {} commands carried out: 0 differences, {:.1} s.\n\
+             Traces left at a strict configuration: {}.\n\
              {}\n\
              Time of all threads: making the traces {:.1} s, the Rust and its counts {:.1} s, the C call \
              {:.1} s.\n\n{}{reached}\n",
@@ -176,6 +181,7 @@ impl Compared {
             grouped(self.lines),
             grouped(self.commands),
             took.as_secs_f64(),
+            grouped(self.strict),
             self.foldings().summary(),
             self.making.as_secs_f64(),
             self.rust.as_secs_f64(),

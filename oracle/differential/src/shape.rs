@@ -1,11 +1,12 @@
 //! Whether lines can be the answer to a trace at all, without asking the Rust:
 //! a line for each record in order, its numbers in decimal and within their
-//! kinds, a refusal with an opcode that can have it, no more actions than commands
-//! done, as many AC lines as the write before them says, and `??` with the right
-//! offset where the trace breaks off.
+//! kinds, a refusal with an opcode that can have it and a 27 only from a strict
+//! unit, no more actions than commands done, as many AC lines as the write before
+//! them says, and `??` with the right offset where the trace breaks off.
 
-use oracle::fields::{CLEAR, DISCARD, INT, INV, INVALL, MAPC, MAPD, MAPI, MAPTI, MOVI, SYNC};
-use oracle::record::{Record, Records};
+use oracle::fields::{CLEAR, DISCARD, INT, INV, INVALL, MAPC, MAPD, MAPI, MAPTI, MOVI};
+use oracle::fields::{NAME_A_DEVICE, SYNC};
+use oracle::record::{DEVICE_TOO_LARGE, Record, Records};
 use oracle::room::MOST_OUTPUT;
 
 /// The longest line that there is: a mark, five numbers of twenty digits with a
@@ -27,11 +28,15 @@ pub fn fault(trace: &[u8], lines: &[u8], cut: bool) -> Option<String> {
         return Some("the last line does not end".into());
     }
     let mut rest = text.lines();
+    let mut strict = false;
     for next in Records::of(trace) {
         let wanted = match &next {
             Ok(record) => mark(record),
             Err(_) => "??",
         };
+        if let Ok(Record::Cf(configuration)) = &next {
+            strict = configuration.starts_strict();
+        }
         let Some(line) = rest.next() else {
             return (!cut).then(|| format!("no line for a record {wanted}"));
         };
@@ -51,7 +56,10 @@ pub fn fault(trace: &[u8], lines: &[u8], cut: bool) -> Option<String> {
                     matches!(refusal, 0 | 1 | 8) && (*refusal == 0 || *lpi == 0 && *processor == 0)
                 }
                 (Ok(Record::Wr { .. }), [refusal, opcode, _, done, actions]) => {
-                    refuses(*refusal, *opcode, *done) && *done <= 1024 && actions <= done
+                    refuses(*refusal, *opcode, *done)
+                        && (strict || *refusal != u64::from(DEVICE_TOO_LARGE))
+                        && *done <= 1024
+                        && actions <= done
                 }
                 (Err(malformed), [offset]) => *offset == malformed.offset as u64,
                 _ => false,
@@ -95,6 +103,7 @@ fn refuses(refusal: u64, opcode: u64, done: u64) -> bool {
         24 => [MAPTI, MAPI, MOVI, INVALL].contains(&opcode),
         25 => [MOVI, DISCARD, INV].contains(&opcode),
         26 => opcode == MAPC,
+        27 => NAME_A_DEVICE.contains(&opcode),
         _ => false,
     }
 }

@@ -98,7 +98,11 @@ fn a_run_says_what_was_folded_and_set_aside() {
         said.expect("a line on it")
     };
     let (into, aside) = (said("Folded into 7: "), said("Set aside: "));
-    let words = ["answers (20: ", ", 26: ", " of them of a MOVI with neither"];
+    let words = [
+        "answers (20: ",
+        ", 27: 0), ",
+        " of them of a MOVI with neither",
+    ];
     assert!(words.iter().all(|words| into.contains(words)), "{into}");
     let words = [" actions of ", " refused writes (6: ", ", 9: ", " run so"];
     assert!(words.iter().all(|words| aside.contains(words)), "{aside}");

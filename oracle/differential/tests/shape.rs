@@ -2,12 +2,35 @@
 
 use differential::shape::fault;
 use oracle::draft::Draft;
+use oracle::text::assemble;
 
 /// Whether a write's lines can follow a configuration's.
 fn can_be(lines: &str) -> bool {
     let mut draft = Draft::default();
     draft.cf(65_535, 64, 65_536, &[0, 1]).wr(0x88, 8, 32);
     fault(&draft.0, format!("CF 0\n{lines}\n").as_bytes(), false).is_none()
+}
+
+#[test]
+fn only_a_strict_unit_refuses_a_large_device() {
+    let strict =
+        "cf limit=65535 budget=64 frame=65536 profile=strict processors=0\nwr cwriter 8 32\n";
+    let base = "cf limit=65535 budget=64 frame=65536 processors=0\nwr cwriter 8 32\n";
+    let fault = |text: &str, lines: &str| {
+        let trace = assemble(text).expect("a well-formed text");
+        fault(&trace, lines.as_bytes(), false)
+    };
+    for opcode in 0..=255 {
+        let line = format!("WR 27 {opcode} 160 1 0\n");
+        let names_a_device = [1, 3, 4, 8, 10, 11, 12, 15].contains(&opcode);
+        let in_strict = fault(strict, &format!("CF 0\n{line}"));
+        assert_eq!(in_strict.is_none(), names_a_device, "{opcode}");
+        for other in [base, &format!("{strict}{base}")] {
+            let before = "CF 0\nWR 0 0 0 0 0\n".repeat(usize::from(other != base));
+            let in_base = fault(other, &format!("{before}CF 0\n{line}"));
+            assert!(in_base.is_some(), "{opcode}");
+        }
+    }
 }
 
 #[test]

@@ -7,9 +7,7 @@ use std::sync::Arc;
 
 use arm_vgic::{AccessWidth, GicV3Config, GicV3Controller, GuestMemory, GuestMemoryError};
 use its::command::{Command, mapc, mapd, mapti};
-use its::{
-    Action, CollectionId, Configuration, DeviceId, EventId, Its, Lpi, Processor, Row, Window,
-};
+use its::{Action, CollectionId, DeviceId, EventId, Its, Lpi, Processor, Row, Settings, Window};
 
 pub const LIMIT: u32 = 65_535;
 pub const BUDGET: u32 = 1_024;
@@ -81,12 +79,8 @@ impl Both {
         let memory = Arc::new(Memory(UnsafeCell::new([0; RING])));
         let config = GicV3Config::new(LIMIT, BUDGET as usize, u64::from(FRAME));
         let mut its = Its::new();
-        let configured = its.configure(&Configuration {
-            lpi_limit: LIMIT,
-            command_budget: BUDGET,
-            frame_size: FRAME,
-            processors: &[Processor(0), Processor(1)],
-        });
+        let settings = Settings::new(LIMIT, BUDGET, FRAME);
+        let configured = its.configure(&settings, &[Processor(0), Processor(1)]);
         configured.expect("within the sizes");
         let mut both = Self {
             its,

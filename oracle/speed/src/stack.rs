@@ -6,7 +6,7 @@ use std::ffi::c_void;
 
 use its::command::{Command, clear, discard, int, inv, invall, mapc, mapd, mapi, mapti, movi};
 use its::command::{sync, unmapc, unmapd};
-use its::{CollectionId, Configuration, DeviceId, EventId, Its, Lpi, Processor};
+use its::{CollectionId, DeviceId, EventId, Its, Lpi, Processor, Settings};
 
 use crate::both::{Both, pair};
 use crate::clock::seen;
@@ -100,13 +100,8 @@ pub fn all() -> Vec<(&'static str, usize)> {
     both.published();
     let mut fresh = Its::new();
     let sixteen: Vec<Processor> = (0..16).map(Processor).collect();
-    let configuration = Configuration {
-        lpi_limit: 65_535,
-        command_budget: 1_024,
-        frame_size: 65_536,
-        processors: &sixteen,
-    };
-    let configure = used(|| seen(fresh.configure(&configuration)));
+    let settings = Settings::new(65_535, 1_024, 65_536);
+    let configure = used(|| seen(fresh.configure(&settings, &sixteen)));
     vec![
         ("its_configure", configure),
         ("its_read", read),

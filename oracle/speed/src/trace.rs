@@ -35,7 +35,8 @@ impl Trace {
             &BUDGET.to_le_bytes(),
             &FRAME.to_le_bytes(),
         ]);
-        trace.numbers(&[&[2], &0u16.to_le_bytes(), &1u16.to_le_bytes()]);
+        // The base profile, and two processors.
+        trace.numbers(&[&[0, 2], &0u16.to_le_bytes(), &1u16.to_le_bytes()]);
         for commands in mapping(pairs).chunks(64) {
             trace.write(CTLR, 4, 0);
             trace.write(CBASER, 8, QUEUE);

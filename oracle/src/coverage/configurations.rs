@@ -4,7 +4,7 @@ use super::counts::Counts;
 use super::state::Seen;
 use super::{Part, rows};
 use crate::answers::Answer;
-use crate::record::{Configuration, Record};
+use crate::record::{BASE, Configuration, Record, STRICT};
 
 const ACCEPTED: &str = "CF accepted";
 const REFUSED: &str = "CF refused";
@@ -41,6 +41,7 @@ impl Part for Configurations {
                     "budget 0",
                     "budget too high",
                     "frame",
+                    "profile",
                     "no processor",
                     "over 16 processors",
                     "processor twice",
@@ -86,6 +87,7 @@ fn at_limits(configuration: &Configuration) -> Vec<&'static str> {
         limit,
         budget,
         frame,
+        profile: _,
         processors,
     } = configuration;
     let columns = [
@@ -106,6 +108,7 @@ fn beyond(configuration: &Configuration) -> Vec<&'static str> {
         limit,
         budget,
         frame,
+        profile,
         processors,
     } = configuration;
     let mut different = processors.clone();
@@ -117,6 +120,7 @@ fn beyond(configuration: &Configuration) -> Vec<&'static str> {
         (*budget == 0, "budget 0"),
         (*budget > 1_024, "budget too high"),
         (!matches!(frame, 65_536 | 131_072), "frame"),
+        (!matches!(*profile, BASE | STRICT), "profile"),
         (processors.is_empty(), "no processor"),
         (processors.len() > 16, "over 16 processors"),
         (different.len() < processors.len(), "processor twice"),

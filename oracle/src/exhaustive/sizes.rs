@@ -1,47 +1,51 @@
-//! Each size of a configuration at its limits and one beyond.
+//! Each size of a configuration at its limits and one beyond, and its profile.
 
 use super::Named;
 use crate::draft::Draft;
+use crate::record::{BASE, Configuration, Record, STRICT};
 
 pub fn traces() -> impl Iterator<Item = Named> {
+    let usual = Configuration {
+        limit: 65_535,
+        budget: 64,
+        frame: 65_536,
+        profile: BASE,
+        processors: vec![0, 1],
+    };
     let mut configurations = Vec::new();
-    let two = vec![0u16, 1];
+    let mut tried = |name: String, change: &dyn Fn(&mut Configuration)| {
+        let mut configuration = usual.clone();
+        change(&mut configuration);
+        configurations.push((name, configuration));
+    };
     for limit in limits() {
-        configurations.push((format!("limit-{limit}"), limit, 64, 65_536, two.clone()));
+        tried(format!("limit-{limit}"), &|given| given.limit = limit);
     }
     for budget in [0, 1, 2, 1_023, 1_024, 1_025, u32::MAX] {
-        configurations.push((
-            format!("budget-{budget}"),
-            65_535,
-            budget,
-            65_536,
-            two.clone(),
-        ));
+        tried(format!("budget-{budget}"), &|given| given.budget = budget);
     }
-    for frame in [
-        0,
-        1,
-        65_535,
-        65_536,
-        65_537,
-        131_071,
-        131_072,
-        131_073,
-        u32::MAX,
-    ] {
-        configurations.push((format!("frame-{frame}"), 65_535, 64, frame, two.clone()));
+    for frame in frames() {
+        tried(format!("frame-{frame}"), &|given| given.frame = frame);
     }
     for (name, processors) in processors() {
-        configurations.push((name, 65_535, 64, 65_536, processors));
+        tried(name, &|given| given.processors.clone_from(&processors));
     }
-    configurations
-        .into_iter()
-        .map(|(name, limit, budget, frame, processors)| {
-            let mut draft = Draft::default();
-            draft.cf(limit, budget, frame, &processors);
-            draft.rd(0x8, 8).wr(0x88, 8, 0).tr(0, 0);
-            (format!("size-{name}"), draft.0)
-        })
+    for profile in [0, 1, 2, 3, 0x7f, 0x80, 0x81, u8::MAX] {
+        tried(format!("profile-{profile}"), &|given| {
+            given.profile = profile
+        });
+    }
+    // A strict unit has the same sizes.
+    tried("profile-1-budget-0".into(), &|given| {
+        given.profile = STRICT;
+        given.budget = 0;
+    });
+    configurations.into_iter().map(|(name, configuration)| {
+        let mut draft = Draft::default();
+        draft.record(&Record::Cf(configuration));
+        draft.rd(0x8, 8).wr(0x88, 8, 0).tr(0, 0);
+        (format!("size-{name}"), draft.0)
+    })
 }
 
 /// The limits, and around each power of two the value of TYPER changes.
@@ -51,6 +55,20 @@ fn limits() -> Vec<u32> {
         limits.extend([(1 << bits) - 1, 1 << bits]);
     }
     limits
+}
+
+fn frames() -> [u32; 9] {
+    [
+        0,
+        1,
+        65_535,
+        65_536,
+        65_537,
+        131_071,
+        131_072,
+        131_073,
+        u32::MAX,
+    ]
 }
 
 /// Counts 0, 1, 16 and 17, and one number twice at every two places.

@@ -3,10 +3,14 @@
 use super::guest::Guest;
 use crate::command::{clear, discard, int, inv, invall, mapc, mapi, mapti, movi, of_pair};
 use crate::fields::Words;
+use crate::record::STRICT;
 
 impl Guest {
     /// A command that should be refused if it came next.
     pub fn bad(&mut self) -> Words {
+        if self.configuration.profile == STRICT && self.random.once_in(4) {
+            return self.of_a_large_device();
+        }
         let (device, event) = self.unmapped_pair();
         let collection = self.random.pick(&self.keys.collections);
         let missing = self.unmapped_collection();
@@ -48,6 +52,18 @@ impl Guest {
             _ => mapc(collection, self.keys.unlisted),
         };
         self.noisy(words)
+    }
+
+    /// A command that would be accepted or refused, but for a device above 65535
+    /// where it has one.
+    fn of_a_large_device(&mut self) -> Words {
+        let mut words = self.good();
+        if self.random.once_in(3) {
+            words[0] = words[0] & !0xff | u64::from(self.unknown_opcode());
+        }
+        let device = self.random.pick(&[0x1_0000, 0x1_0001, 0x1_ffff, u32::MAX]);
+        words[0] |= u64::from(device) << 32;
+        words
     }
 
     fn pair_with_lpi(&mut self, lpi: u32, collection: u16) -> Words {

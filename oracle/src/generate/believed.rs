@@ -6,9 +6,10 @@
 use std::collections::BTreeMap;
 
 use crate::fields::{
-    CLEAR, DISCARD, Fields, INT, INV, INVALL, MAPC, MAPD, MAPI, MAPTI, MOVI, SYNC, Words,
+    CLEAR, DISCARD, Fields, INT, INV, INVALL, MAPC, MAPD, MAPI, MAPTI, MOVI, NAME_A_DEVICE, SYNC,
+    Words,
 };
-use crate::record::Configuration;
+use crate::record::{Configuration, STRICT};
 use crate::tables::{COLLECTIONS, DEVICES, TRANSLATIONS};
 
 #[derive(Clone, Debug, Default)]
@@ -29,11 +30,17 @@ impl Believed {
     /// Carries the command out if it should be accepted.
     pub fn carry_out(&mut self, words: &Words, configuration: &Configuration) -> Expected {
         let fields = Fields::of(words);
-        if !self.accepts(&fields, configuration) {
+        let strict = configuration.profile == STRICT;
+        let names_one = NAME_A_DEVICE.contains(&fields.opcode);
+        let too_large = strict && names_one && fields.device > 0xffff;
+        if too_large || !self.accepts(&fields, configuration) {
             return Expected::Refused;
         }
         if self.full(&fields) {
             return Expected::Full;
+        }
+        if strict && fields.opcode == MAPD {
+            self.drop_pairs_of(fields.device);
         }
         self.apply(&fields);
         Expected::Accepted
@@ -80,6 +87,10 @@ impl Believed {
         }
     }
 
+    fn drop_pairs_of(&mut self, device: u32) {
+        self.pairs.retain(|(other, _), _| *other != device);
+    }
+
     fn apply(&mut self, fields: &Fields) {
         let pair = (fields.device, fields.event);
         match fields.opcode {
@@ -88,7 +99,7 @@ impl Believed {
             }
             MAPD => {
                 self.devices.remove(&fields.device);
-                self.pairs.retain(|(device, _), _| *device != fields.device);
+                self.drop_pairs_of(fields.device);
             }
             MAPC if fields.valid => {
                 self.collections.insert(fields.collection, fields.processor);

@@ -67,6 +67,7 @@ impl Guest {
             }
             stop = match stop {
                 Stop::Nowhere | Stop::Full => return,
+                Stop::Held => self.with_a_valid_ring(),
                 Stop::Budget => self.nearer(),
                 Stop::Window => {
                     self.lend_up_to(self.ring.writer);
@@ -91,6 +92,17 @@ impl Guest {
         self.disable();
         self.write_writer(place);
         self.enable()
+    }
+
+    /// In place of a ring that is not valid: the same, valid, with the commands that
+    /// wait.
+    fn with_a_valid_ring(&mut self) -> Stop {
+        let waiting = self.ring.commands();
+        let (base, pages) = (self.ring.base, self.ring.pages());
+        self.disable();
+        self.give_ring(base, pages, true, 0);
+        self.enable();
+        self.post(&waiting)
     }
 
     /// After a refused command: another in its place, or none, or a new start.

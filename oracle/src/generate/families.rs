@@ -11,8 +11,8 @@ mod windows;
 
 use super::random::Random;
 
-/// A family writes one trace from the numbers it draws.
-type Family = fn(Random) -> Vec<u8>;
+/// A family writes one trace from the numbers it draws, for units of a profile.
+type Family = fn(Random, u8) -> Vec<u8>;
 
 /// In turn, seed by seed; the commonest guests stand several times.
 pub const FAMILIES: [Family; 16] = [

@@ -4,10 +4,9 @@
 use super::believed::{Believed, Expected};
 use super::keys::{self, Keys};
 use super::random::Random;
-use super::ring::{PLACES_OF_A_PAGE, Ring};
-use crate::command::VALID;
+use super::ring::Ring;
 use crate::fields::{BYTES_OF_A_COMMAND, Words};
-use crate::record::{Configuration, LONGEST_WINDOW, Record};
+use crate::record::{Configuration, LONGEST_WINDOW, Record, STRICT};
 
 pub const CTLR: u64 = 0x0;
 pub const CBASER: u64 = 0x80;
@@ -42,6 +41,8 @@ pub struct Guest {
 #[derive(Clone, Copy, Debug, Eq, PartialEq)]
 pub enum Stop {
     Nowhere,
+    /// Before it began: a strict unit, and a ring that is not valid.
+    Held,
     Budget,
     Window,
     Refused,
@@ -50,8 +51,8 @@ pub enum Stop {
 
 impl Guest {
     /// A guest of a unit just configured.
-    pub fn new(mut random: Random) -> Self {
-        let configuration = keys::configuration(&mut random);
+    pub fn new(mut random: Random, profile: u8) -> Self {
+        let configuration = keys::configuration(&mut random, profile);
         Self::with(random, configuration)
     }
 
@@ -104,11 +105,17 @@ impl Guest {
         });
     }
 
-    /// Gives a disabled unit a ring, whole or by halves.
+    /// Gives a disabled unit a ring, most often a valid one.
     pub fn set_ring(&mut self, base: u64, pages: usize) {
-        let beside = self.random.number() & 0x7ff0_0000_0000_0f00;
-        let valid = if self.random.once_in(4) { 0 } else { VALID };
-        let value = base | (pages as u64 - 1) | beside | valid;
+        let beside = self.random.number();
+        let valid = !self.random.once_in(4);
+        self.give_ring(base, pages, valid, beside);
+    }
+
+    /// Gives a disabled unit a ring, whole or by halves, with any bits beside it.
+    pub fn give_ring(&mut self, base: u64, pages: usize, valid: bool, beside: u64) {
+        let beside = beside & 0x7ff0_0000_0000_0f00;
+        let value = base | (pages as u64 - 1) | beside | u64::from(valid) << 63;
         match self.random.below(4) {
             0 => {
                 self.write(CBASER, 4, value | 0xabcd_0000_0000_0000);
@@ -120,7 +127,7 @@ impl Guest {
             }
             _ => self.write(CBASER, 8, value),
         }
-        self.ring = Ring::new(base, pages);
+        self.ring = Ring::new(base, pages, valid);
     }
 
     pub fn some_base(&mut self) -> u64 {
@@ -144,7 +151,7 @@ impl Guest {
 
     /// Disables the unit, gives it the same ring again and enables it.
     pub fn start_again(&mut self) {
-        let (base, pages) = (self.ring.base, self.ring.places.len() / PLACES_OF_A_PAGE);
+        let (base, pages) = (self.ring.base, self.ring.pages());
         self.disable();
         self.set_ring(base, pages);
         self.enable();
@@ -216,6 +223,9 @@ impl Guest {
     fn run(&mut self) -> Stop {
         if !self.enabled || self.ring.waiting() == 0 {
             return Stop::Nowhere;
+        }
+        if self.configuration.profile == STRICT && !self.ring.valid {
+            return Stop::Held;
         }
         if self.ring.waiting() > self.configuration.budget as usize {
             return Stop::Budget;

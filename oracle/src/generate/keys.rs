@@ -1,7 +1,7 @@
 //! The few numbers that one trace uses, so that its commands meet.
 
 use super::random::Random;
-use crate::record::Configuration;
+use crate::record::{Configuration, STRICT};
 
 const DEVICES: [u32; 7] = [0, 1, 5, 31, 0xffff, 0x1_0000, u32::MAX];
 const COLLECTIONS: [u16; 6] = [0, 1, 2, 31, 0x8000, u16::MAX];
@@ -47,8 +47,13 @@ impl Keys {
         let unlisted = (0..=u16::MAX)
             .map(|step| step.wrapping_add(start))
             .find(|number| !configuration.processors.contains(number));
+        let mut devices = some(random, &DEVICES, 3);
+        if configuration.profile == STRICT {
+            // Those that are too large are for commands that should be refused.
+            devices.iter_mut().for_each(|device| *device &= 0xffff);
+        }
         Self {
-            devices: some(random, &DEVICES, 3),
+            devices,
             events,
             collections: some(random, &COLLECTIONS, 3),
             bits: some(random, &BITS, 4),
@@ -64,7 +69,7 @@ fn some<T: Copy>(random: &mut Random, from: &[T], count: usize) -> Vec<T> {
 }
 
 /// A configuration within 01's sizes.
-pub fn configuration(random: &mut Random) -> Configuration {
+pub fn configuration(random: &mut Random, profile: u8) -> Configuration {
     let count = random.pick(&[1, 2, 2, 4, 4, 16]);
     let first = random.pick(&[0u16, 0, 0, 1, 7, 0xfff0]);
     let step = if first == 0 && count > 1 {
@@ -76,6 +81,7 @@ pub fn configuration(random: &mut Random) -> Configuration {
         limit: random.pick(&LIMITS),
         budget: random.pick(&BUDGETS),
         frame: random.pick(&[65_536, 131_072]),
+        profile,
         processors: (0..count)
             .map(|number: u16| first.wrapping_add(number.wrapping_mul(step)))
             .collect(),

@@ -10,19 +10,32 @@ pub const PLACES_OF_A_PAGE: usize = 4_096 / BYTES_OF_A_COMMAND;
 #[derive(Clone, Debug, Default)]
 pub struct Ring {
     pub base: u64,
+    /// Whether it is given with CBASER's bit 63, which a strict unit looks at.
+    pub valid: bool,
     pub places: Vec<Words>,
     pub reader: usize,
     pub writer: usize,
 }
 
 impl Ring {
-    pub fn new(base: u64, pages: usize) -> Self {
+    pub fn new(base: u64, pages: usize, valid: bool) -> Self {
         Self {
             base,
+            valid,
             places: vec![sync(0); pages * PLACES_OF_A_PAGE],
             reader: 0,
             writer: 0,
         }
+    }
+
+    pub fn pages(&self) -> usize {
+        self.places.len() / PLACES_OF_A_PAGE
+    }
+
+    /// The commands that wait.
+    pub fn commands(&self) -> Vec<Words> {
+        let places = (0..self.waiting()).map(|step| self.after(self.reader, step));
+        places.map(|place| self.places[place]).collect()
     }
 
     pub fn waiting(&self) -> usize {

@@ -4,7 +4,7 @@ use super::commands;
 use super::numbers::{bytes, number};
 use super::registers::offset_of;
 use crate::fields::bytes_of;
-use crate::record::{Configuration, LONGEST_WINDOW, Record};
+use crate::record::{BASE, Configuration, LONGEST_WINDOW, Record, STRICT};
 
 /// The line, from 1, that is at fault, and why.
 #[derive(Debug, Eq, PartialEq)]
@@ -129,26 +129,37 @@ fn record(name: &str, rest: &[&str]) -> Result<Option<Record>, String> {
 }
 
 fn configuration(words: &[&str]) -> Result<Configuration, String> {
-    let field = |name: &str| -> Result<&str, String> {
+    let optional = |name: &str| -> Result<Option<&str>, String> {
         let mut values = words
             .iter()
             .filter_map(|word| word.strip_prefix(name)?.strip_prefix('='));
-        let value = values.next().ok_or_else(|| format!("{name}= is missing"))?;
-        match values.next() {
-            None => Ok(value),
-            Some(_) => Err(format!("{name}= is given twice")),
+        match (values.next(), values.next()) {
+            (value, None) => Ok(value),
+            _ => Err(format!("{name}= is given twice")),
         }
     };
+    let field = |name| optional(name)?.ok_or_else(|| format!("{name}= is missing"));
     let configuration = Configuration {
         limit: number(field("limit")?)?,
         budget: number(field("budget")?)?,
         frame: number(field("frame")?)?,
+        profile: optional("profile")?.map_or(Ok(BASE), profile)?,
         processors: processors(field("processors")?)?,
     };
-    if words.len() > 4 {
-        return Err("cf has only limit=, budget=, frame= and processors=".into());
+    if words.len() > 4 + usize::from(optional("profile")?.is_some()) {
+        return Err("cf has only limit=, budget=, frame=, profile= and processors=".into());
     }
     Ok(configuration)
+}
+
+/// A profile by its name, or any byte: a number that is no profile is refused by
+/// the unit and not here.
+fn profile(name: &str) -> Result<u8, String> {
+    match name {
+        "base" => Ok(BASE),
+        "strict" => Ok(STRICT),
+        _ => number(name).map_err(|_| format!("profile={name} is neither base, strict nor a byte")),
+    }
 }
 
 fn processors(list: &str) -> Result<Vec<u16>, String> {

@@ -4,7 +4,7 @@ use super::commands;
 use super::numbers::hexadecimal;
 use super::registers::show_offset;
 use crate::fields::{BYTES_OF_A_COMMAND, words_of};
-use crate::record::{Record, Records};
+use crate::record::{BASE, Record, Records, STRICT};
 
 /// The text of any bytes; assembling it gives the same bytes.
 pub fn list(trace: &[u8]) -> String {
@@ -36,8 +36,13 @@ pub fn show(record: &Record) -> String {
             } else {
                 processors.join(",")
             };
+            let profile = match configuration.profile {
+                BASE => String::new(),
+                STRICT => " profile=strict".into(),
+                number => format!(" profile={number}"),
+            };
             format!(
-                "cf limit={} budget={} frame={} processors={processors}\n",
+                "cf limit={} budget={} frame={}{profile} processors={processors}\n",
                 configuration.limit, configuration.budget, configuration.frame
             )
         }

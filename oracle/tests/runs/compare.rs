@@ -38,7 +38,7 @@ fn acting() -> Answers {
     }
 }
 
-/// The counts of the numbers 20 to 26.
+/// The counts of the numbers 20 to 27.
 fn counts(folded: &Folded) -> Vec<u64> {
     folded.counts().map(|(_, count)| count).collect()
 }
@@ -92,7 +92,7 @@ fn both_comparisons_are_made_and_named() {
         difference(&reasoned(), 100, bytes.as_bytes(), number)
     };
     let folded = held("CF 0", "CF 0").expect("the same lines");
-    assert_eq!(counts(&folded), [0, 0, 1, 0, 1, 0, 0]);
+    assert_eq!(counts(&folded), [0, 0, 1, 0, 1, 0, 0, 0]);
     assert_eq!(aside(&folded), []);
     for (from, to) in [
         ("WR 22", "WR 23"),
@@ -108,12 +108,53 @@ fn both_comparisons_are_made_and_named() {
         ("10 32 1", "10 64 1"),
         ("10 32 1", "10 32 0"),
         ("WR 22 10", "WR 8 10"),
-        ("WR 22 10", "WR 27 10"),
+        ("WR 22 10", "WR 28 10"),
         ("WR 22 10", "WR 19 10"),
         ("WR 24 1 32 0 0\n", ""),
     ] {
         let line = held(from, to).expect_err("another line");
-        assert!(line.starts_with("with 20 to 26 folded into 7"), "{line}");
+        assert!(line.starts_with("with 20 to 27 folded into 7"), "{line}");
+    }
+}
+
+/// Folded it would be the Rust's 7. It is a strict unit's, and no strict unit is
+/// compared, whatever else the line says.
+#[test]
+fn a_base_unit_that_answers_27_is_found() {
+    let told = String::from_utf8(reasoned().told).expect("lines are text");
+    for (from, to) in [("WR 22 10", "WR 27 10"), ("WR 7 0", "WR 27 0")] {
+        let bytes = told.replace(from, to);
+        let (folded, _) = fold(bytes.as_bytes());
+        assert_eq!(folded, reasoned().lines);
+        let number = returned(bytes.as_bytes(), 100);
+        let found = difference(&reasoned(), 100, bytes.as_bytes(), number).expect_err("a 27");
+        assert!(
+            found.starts_with("a base unit answers 27, line "),
+            "{found}"
+        );
+        assert!(found.contains(&format!("is `{to}")), "{found}");
+    }
+}
+
+/// Up to a strict configuration the lines are compared; what follows is left alone,
+/// a 27 too.
+#[test]
+fn after_a_strict_configuration_nothing_is_compared() {
+    let strict = Answers {
+        told: b"CF 0\nTR 8 0 0\nCF 0\n".to_vec(),
+        lines: b"CF 0\nTR 8 0 0\nCF 0\n".to_vec(),
+        ended_at_strict: true,
+        ..Answers::default()
+    };
+    let held = |lines: &str| difference(&strict, 100, lines.as_bytes(), 16 * lines.len() as u64);
+    let folded = held("CF 0\nTR 8 0 0\nCF 0\nWR 27 8 0 0 0\nTR 0 1 2\n").expect("equal so far");
+    assert_eq!(folded, Folded::default());
+    for lines in [
+        "CF 0\nTR 8 0 0\nCF 1\nTR 1 0 0\n",
+        "CF 0\nTR 1 0 0\nCF 0\n",
+        "CF 0\nTR 8 0 0\n",
+    ] {
+        held(lines).expect_err("another line before it");
     }
 }
 
@@ -157,7 +198,7 @@ fn the_actions_of_a_refused_write_are_held_against_what_the_rust_tells() {
     ] {
         let line = held(from, to).expect_err("another line");
         assert!(
-            line.starts_with("with 20 to 26 folded into 7 and"),
+            line.starts_with("with 20 to 27 folded into 7 and"),
             "{line}"
         );
     }
@@ -215,7 +256,7 @@ fn what_fits_is_judged_with_the_reasons_and_actions() {
 #[test]
 fn only_the_refusal_of_a_write_is_folded() {
     let lines = b"CF 20\nGM 21\nRD 22 20\nTR 23 24 25\nAC 20 8200 1\n?? 26\n\
-        WR 19 20 21 22 0\nWR 27 20 21 22 0\nWR 2 20 0 0 0\nWR 200 20 0 0 0\n\
+        WR 19 20 21 22 0\nWR 28 20 21 22 0\nWR 2 20 0 0 0\nWR 200 20 0 0 0\n\
         WR 020 20 0 0 0\nWR  20 0 0 0\nWR 7 20 21 22 0\nXWR 20 0 0 0 0\nWRX 20 0 0 0 0\n";
     let (same, folded) = fold(lines);
     assert_eq!(
@@ -227,18 +268,18 @@ fn only_the_refusal_of_a_write_is_folded() {
 
 #[test]
 fn every_reason_is_folded_and_counted() {
-    for (place, number) in (20..=26).enumerate() {
+    for (place, number) in (20..=27).enumerate() {
         let line = format!("GM 0\nWR {number} 20 21 22 0\nWR {number} 1 0 0 0\n");
         let (seven, folded) = fold(line.as_bytes());
         assert_eq!(seven, b"GM 0\nWR 7 20 21 22 0\nWR 7 1 0 0 0\n");
-        let mut expected = [0; 7];
+        let mut expected = [0; 8];
         expected[place] = 2;
         assert_eq!(counts(&folded), expected);
     }
     let (lines, mut folded) = fold(b"WR 24 1 0 0 0\nWR 20 0 0 0 0");
     assert_eq!(lines, b"WR 7 1 0 0 0\nWR 7 0 0 0 0");
     folded.absorb(&fold(b"WR 24 1 0 0 0\n").1);
-    assert_eq!(counts(&folded), [1, 0, 0, 0, 2, 0, 0]);
+    assert_eq!(counts(&folded), [1, 0, 0, 0, 2, 0, 0, 0]);
 }
 
 #[test]

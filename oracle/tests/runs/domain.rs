@@ -2,7 +2,7 @@
 
 use crate::common::{lines_of, lines_of_file};
 use oracle::answers::{Around, answers};
-use oracle::record::{Configuration, Record};
+use oracle::record::{BASE, Configuration, Record, STRICT};
 use oracle::text::assemble;
 
 const UNIT: &str = "cf limit=65535 budget=64 frame=65536 processors=0,1\n";
@@ -75,6 +75,7 @@ fn a_count_above_16_still_has_its_bytes() {
         limit: 65_535,
         budget: 64,
         frame: 65_536,
+        profile: BASE,
         processors: (0..17).collect(),
     })
     .encode(&mut trace);
@@ -92,4 +93,52 @@ fn a_refused_configuration_takes_the_old_unit_away() {
     assert_eq!(lines[1], "RD 0 2147483648");
     assert_eq!(lines[3..5], ["RD 1 0", "TR 1 0 0"]);
     assert_eq!(lines[6], "RD 0 2147483648");
+}
+
+fn configured(profile: u8) -> Vec<u8> {
+    let mut trace = Vec::new();
+    Record::Cf(Configuration {
+        limit: 65_535,
+        budget: 64,
+        frame: 65_536,
+        profile,
+        processors: vec![0, 1],
+    })
+    .encode(&mut trace);
+    trace
+}
+
+/// Mark, limit, budget, frame, profile, count, numbers.
+#[test]
+fn the_profile_stands_between_frame_and_count() {
+    let bytes = [0xff, 0xff, 0, 0, 64, 0, 0, 0, 0, 0, 1, 0, 1, 2, 0, 0, 1, 0];
+    assert_eq!(configured(STRICT), [&b"CF"[..], &bytes].concat());
+    let shortest = [&b"CF"[..], &[0; 14]].concat();
+    assert_eq!(answers(&shortest).told, b"CF 1\n");
+    assert_eq!(answers(&shortest[..15]).told, b"?? 0\n");
+}
+
+#[test]
+fn there_are_two_profiles() {
+    for profile in 0..=u8::MAX {
+        let mut trace = configured(profile);
+        trace.extend(assemble("rd ctlr 4\ntr 0 0").expect("a well-formed text"));
+        let answers = answers(&trace);
+        let lines: &[u8] = match profile {
+            BASE => b"CF 0\nRD 0 2147483648\nTR 8 0 0\n",
+            // The Rust has no such unit, and is not asked.
+            STRICT => b"CF 0\n",
+            _ => b"CF 1\nRD 1 0\nTR 1 0 0\n",
+        };
+        assert_eq!(answers.told, lines, "{profile}");
+        assert_eq!(answers.lines, lines, "{profile}");
+        assert_eq!(answers.ended_at_strict, profile == STRICT);
+    }
+}
+
+#[test]
+fn a_strict_configuration_beyond_the_sizes_is_refused_as_any() {
+    let refused = "cf limit=1 budget=64 frame=65536 profile=strict processors=0\n";
+    let lines = lines_of(&format!("{refused}tr 0 0\n{UNIT}tr 0 0"));
+    assert_eq!(lines, ["CF 1", "TR 1 0 0", "CF 0", "TR 8 0 0"]);
 }

@@ -9,8 +9,9 @@ const GUESTS: &str = concat!(env!("CARGO_MANIFEST_DIR"), "/../crates/replay/data
 
 #[test]
 fn answers_real_guests_as_expected() {
-    let traces = check(Path::new(GUESTS)).expect("every line as expected");
-    assert_eq!(traces, 4, "io61, hotplug612, suspend61, kexec61");
+    let checked = check(Path::new(GUESTS)).expect("every line as expected");
+    assert_eq!(checked.whole, 4, "io61, hotplug612, suspend61, kexec61");
+    assert_eq!(checked.up_to_strict, 0);
 }
 
 /// Every command of a real guest has a name and fields that say it.

@@ -5,7 +5,7 @@ use std::path::Path;
 use oracle::answers::answers;
 use oracle::coverage::Coverage;
 use oracle::generate::trace_for;
-use oracle::recorded::{check, list};
+use oracle::recorded::{by_hand, check, list};
 
 const TEXTS: &str = concat!(env!("CARGO_MANIFEST_DIR"), "/traces");
 const RECORDED: &str = concat!(
@@ -26,6 +26,20 @@ fn the_list_makes_the_recorded_traces() {
         let recorded = std::fs::read(path.with_extension("trace"));
         assert!(recorded.is_ok_and(|recorded| recorded == *trace), "{name}");
     }
+}
+
+#[test]
+fn the_lines_by_hand_are_recorded() {
+    let traces = by_hand(Path::new(TEXTS)).expect("well-formed texts");
+    for ((name, trace), lines) in &traces {
+        let path = Path::new(RECORDED).join(name);
+        for (ending, bytes) in [("trace", trace), ("expect", lines)] {
+            let recorded = std::fs::read(path.with_extension(ending));
+            assert!(recorded.is_ok_and(|recorded| recorded == *bytes), "{name}");
+        }
+    }
+    let checked = check(Path::new(RECORDED)).expect("every line as recorded");
+    assert_eq!(checked.up_to_strict, traces.len());
 }
 
 /// The order of a command's checks shows where two of them fail: every such two

@@ -45,6 +45,36 @@ fn numbers_names_and_comments_may_be_written_in_several_ways() {
 }
 
 #[test]
+fn a_profile_goes_by_its_name_and_base_may_be_left_out() {
+    let cf = |profile: &str| format!("cf limit=9000 budget=2 frame=65536 {profile} processors=7\n");
+    let byte_of = |profile: &str| assemble(&cf(profile)).expect("a well-formed text")[14];
+    for (profile, byte) in [
+        ("", 0),
+        ("profile=base", 0),
+        ("profile=0", 0),
+        ("profile=strict", 1),
+        ("profile=1", 1),
+        ("profile=2", 2),
+        ("profile=0xff", 255),
+    ] {
+        assert_eq!(byte_of(profile), byte, "{profile}");
+    }
+    for (profile, listed) in [
+        (
+            "profile=base",
+            "cf limit=9000 budget=2 frame=65536 processors=7\n",
+        ),
+        ("profile=1", &cf("profile=strict")),
+        ("profile=2", &cf("profile=2")),
+        ("profile=255", &cf("profile=255")),
+    ] {
+        let trace = assemble(&cf(profile)).expect("a well-formed text");
+        assert_eq!(list(&trace), listed);
+        assert_eq!(assemble(listed), Ok(trace));
+    }
+}
+
+#[test]
 fn what_no_named_form_says_is_listed_as_words() {
     for words in [
         "words 0x108 0x0 0x8000000000000000 0x0",
@@ -63,6 +93,31 @@ fn what_no_named_form_says_is_listed_as_words() {
 fn faults_name_line_and_reason() {
     let cases = [
         ("cf limit=1 budget=1 frame=1", 1, "processors= is missing"),
+        (
+            "cf limit=1 budget=1 frame=1 profile=lax processors=0",
+            1,
+            "profile=lax is neither base, strict nor a byte",
+        ),
+        (
+            "cf limit=1 budget=1 frame=1 profile=256 processors=0",
+            1,
+            "profile=256 is neither base, strict nor a byte",
+        ),
+        (
+            "cf limit=1 budget=1 frame=1 profile=0 profile=1 processors=0",
+            1,
+            "profile= is given twice",
+        ),
+        (
+            "cf limit=1 budget=1 frame=1 processors=0 mode=1",
+            1,
+            "cf has only limit=, budget=, frame=, profile= and processors=",
+        ),
+        (
+            "cf limit=1 budget=1 frame=1 profile=1 processors=0 mode=1",
+            1,
+            "cf has only limit=, budget=, frame=, profile= and processors=",
+        ),
         ("\n\nrd nowhere 4", 3, "no register is named `nowhere`"),
         ("rd ctlr", 1, "rd takes a register and a width"),
         ("rd ctlr 256", 1, "256 is too large here"),

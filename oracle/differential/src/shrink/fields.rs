@@ -45,9 +45,10 @@ pub fn number(record: &mut Record, field: usize) -> Option<Number<'_>> {
             0 => Some(Number::Half(&mut configuration.limit)),
             1 => Some(Number::Half(&mut configuration.budget)),
             2 => Some(Number::Half(&mut configuration.frame)),
+            3 => Some(Number::Byte(&mut configuration.profile)),
             _ => configuration
                 .processors
-                .get_mut(field - 3)
+                .get_mut(field - 4)
                 .map(Number::Short),
         },
         Record::Gm { address, bytes } => match field.checked_sub(1) {

@@ -1,5 +1,7 @@
 //! Calls with a planted fault of their lines, and what a run says of them. Each
 //! wraps the real one.
+// No test needs all of it.
+#![allow(dead_code)]
 
 use differential::call::{Call, c_call};
 use differential::run::{Traces, run};
@@ -34,10 +36,17 @@ pub fn other_when_folded(call: Call, ours: &str, rusts: &str) {
     let what = found(call);
     assert!(
         what.starts_with(
-            "with 20 to 26 folded into 7 and the actions of refused writes set aside, line "
+            "with 20 to 27 folded into 7 and the actions of refused writes set aside, line "
         ),
         "{what}"
     );
+    has_lines(&what, ours, rusts);
+}
+
+/// Found because no base unit answers 27, at these two lines.
+pub fn not_of_a_base_unit(call: Call, ours: &str, rusts: &str) {
+    let what = found(call);
+    assert!(what.starts_with("a base unit answers 27, line "), "{what}");
     has_lines(&what, ours, rusts);
 }
 

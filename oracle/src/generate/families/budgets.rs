@@ -6,8 +6,8 @@ use crate::generate::keys;
 use crate::generate::random::Random;
 use crate::generate::ring::PLACES_OF_A_PAGE;
 
-pub fn trace(mut random: Random) -> Vec<u8> {
-    let mut configuration = keys::configuration(&mut random);
+pub fn trace(mut random: Random, profile: u8) -> Vec<u8> {
+    let mut configuration = keys::configuration(&mut random, profile);
     configuration.budget = random.pick(&[1, 1, 2, 3, 8, 20, 64, 126, 1_024]);
     let mut guest = Guest::with(random, configuration);
     let pages = guest.random.pick(&[1, 1, 2, 16, 256]);

@@ -6,8 +6,8 @@ use crate::generate::keys;
 use crate::generate::random::Random;
 use crate::record::{Configuration, Record};
 
-pub fn trace(random: Random) -> Vec<u8> {
-    let mut guest = Guest::new(random);
+pub fn trace(random: Random, profile: u8) -> Vec<u8> {
+    let mut guest = Guest::new(random, profile);
     // A guest begins with an accepted CF; here that comes later.
     guest.trace.clear();
     if guest.random.once_in(2) {
@@ -21,7 +21,7 @@ pub fn trace(random: Random) -> Vec<u8> {
             guest.record(&Record::Cf(refused));
             call_everything(&mut guest);
         }
-        let configuration = keys::configuration(&mut guest.random);
+        let configuration = keys::configuration(&mut guest.random, profile);
         guest.configure(configuration);
         guest.start(1);
         let batches = guest.random.between(1, 5);
@@ -36,10 +36,10 @@ pub fn trace(random: Random) -> Vec<u8> {
     guest.trace
 }
 
-/// A configuration with one size at or beyond its limit.
+/// A configuration with one size beyond its limit, or a profile that there is not.
 fn spoiled(guest: &mut Guest) -> Configuration {
-    let mut configuration = keys::configuration(&mut guest.random);
-    match guest.random.below(8) {
+    let mut configuration = keys::configuration(&mut guest.random, guest.configuration.profile);
+    match guest.random.below(9) {
         0 => configuration.limit = guest.random.pick(&[0, 8_191]),
         1 => configuration.limit = guest.random.pick(&[16_777_216, u32::MAX]),
         2 => configuration.budget = 0,
@@ -47,6 +47,7 @@ fn spoiled(guest: &mut Guest) -> Configuration {
         4 => configuration.frame = guest.random.pick(&[0, 65_535, 65_537, 131_073, 262_144]),
         5 => configuration.processors.clear(),
         6 => configuration.processors = (0..17).collect(),
+        7 => configuration.profile = guest.random.pick(&[2, 3, 0x80, u8::MAX]),
         _ => {
             let twice = guest.some_processor();
             configuration.processors = vec![twice, twice.wrapping_add(1), twice];

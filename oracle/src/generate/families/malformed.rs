@@ -4,10 +4,10 @@ use super::{configurations, ordinary, registers};
 use crate::generate::random::Random;
 use crate::record::{LONGEST_WINDOW, Record, Records};
 
-pub fn trace(mut random: Random) -> Vec<u8> {
+pub fn trace(mut random: Random, profile: u8) -> Vec<u8> {
     let family = random.pick(&[ordinary::trace, registers::trace, configurations::trace]);
     let inner = Random::new(random.number());
-    let trace = family(inner);
+    let trace = family(inner, profile);
     match random.below(4) {
         0 => cut(random, trace),
         1 => bad_mark(random, trace),

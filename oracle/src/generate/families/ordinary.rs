@@ -4,8 +4,8 @@ use crate::generate::guest::{Guest, Stop};
 use crate::generate::random::Random;
 
 /// A well-behaved guest that errs now and then.
-pub fn trace(random: Random) -> Vec<u8> {
-    let mut guest = Guest::new(random);
+pub fn trace(random: Random, profile: u8) -> Vec<u8> {
+    let mut guest = Guest::new(random, profile);
     guest.start(1);
     let batches = guest.random.between(4, 40);
     for _ in 0..batches {
@@ -26,8 +26,8 @@ pub fn trace(random: Random) -> Vec<u8> {
 }
 
 /// A guest half of whose writes hold a command that should be refused.
-pub fn hostile(random: Random) -> Vec<u8> {
-    let mut guest = Guest::new(random);
+pub fn hostile(random: Random, profile: u8) -> Vec<u8> {
+    let mut guest = Guest::new(random, profile);
     guest.start(1);
     let batches = guest.random.between(4, 24);
     for _ in 0..batches {

@@ -21,8 +21,8 @@ const VALUES: [u64; 14] = [
     u64::MAX,
 ];
 
-pub fn trace(random: Random) -> Vec<u8> {
-    let mut guest = Guest::new(random);
+pub fn trace(random: Random, profile: u8) -> Vec<u8> {
+    let mut guest = Guest::new(random, profile);
     let accesses = guest.random.between(20, 150);
     for _ in 0..accesses {
         match guest.random.below(20) {

@@ -7,8 +7,8 @@ use crate::generate::random::Random;
 use crate::generate::ring::PLACES_OF_A_PAGE;
 
 /// A ring of one page, most of it run through, then wrapped by ordinary work.
-pub fn one_page(random: Random) -> Vec<u8> {
-    let mut guest = guest_with_budget(random, &[8, 64, 1_024]);
+pub fn one_page(random: Random, profile: u8) -> Vec<u8> {
+    let mut guest = guest_with_budget(random, profile, &[8, 64, 1_024]);
     guest.start(1);
     run_to(&mut guest, PLACES_OF_A_PAGE - 5);
     wrap(&mut guest, 4);
@@ -16,8 +16,8 @@ pub fn one_page(random: Random) -> Vec<u8> {
 }
 
 /// The same with two or three pages.
-pub fn several_pages(random: Random) -> Vec<u8> {
-    let mut guest = guest_with_budget(random, &[64, 128, 1_024]);
+pub fn several_pages(random: Random, profile: u8) -> Vec<u8> {
+    let mut guest = guest_with_budget(random, profile, &[64, 128, 1_024]);
     let pages = guest.random.pick(&[2, 2, 3]);
     guest.start(pages);
     run_to(&mut guest, pages * PLACES_OF_A_PAGE - 5);
@@ -25,8 +25,8 @@ pub fn several_pages(random: Random) -> Vec<u8> {
     guest.trace
 }
 
-fn guest_with_budget(mut random: Random, budgets: &[u32]) -> Guest {
-    let mut configuration = keys::configuration(&mut random);
+fn guest_with_budget(mut random: Random, profile: u8, budgets: &[u32]) -> Guest {
+    let mut configuration = keys::configuration(&mut random, profile);
     configuration.budget = random.pick(budgets);
     Guest::with(random, configuration)
 }

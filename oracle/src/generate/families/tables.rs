@@ -7,8 +7,8 @@ use crate::generate::keys;
 use crate::generate::random::Random;
 use crate::tables::{COLLECTIONS, DEVICES, TRANSLATIONS, Table};
 
-pub fn trace(mut random: Random) -> Vec<u8> {
-    let mut configuration = keys::configuration(&mut random);
+pub fn trace(mut random: Random, profile: u8) -> Vec<u8> {
+    let mut configuration = keys::configuration(&mut random, profile);
     configuration.limit = 65_535;
     configuration.budget = 128;
     let mut guest = Guest::with(random, configuration);

@@ -4,8 +4,8 @@ use crate::fields::BYTES_OF_A_COMMAND;
 use crate::generate::guest::Guest;
 use crate::generate::random::Random;
 
-pub fn trace(random: Random) -> Vec<u8> {
-    let mut guest = Guest::new(random);
+pub fn trace(random: Random, profile: u8) -> Vec<u8> {
+    let mut guest = Guest::new(random, profile);
     let pages = guest.random.pick(&[1, 1, 2]);
     guest.start(pages);
     let batches = guest.random.between(3, 20);
