@@ -31,6 +31,11 @@ uint64_t its_trace(const uint8_t *trace, size_t trace_length, uint8_t *output, s
  * what stands in crates/lent_tables/specs/Numbers.antt. Nothing is asked of them: whatever they are, each call answers. Numbers that are no sound
  * unit, all of them 0 for example, are refused with 1.
  *
+ * The first number, words[0], says which layout the others have; that of this version is ITS_LAYOUT. Under any other number there, as in a row of
+ * zeros or in one that a program of another version kept, they are a unit that answers 1 to everything. its_read, its_write and its_translate then
+ * leave all of them as they are; its_configure makes a fresh unit of them. A version that gives some number another meaning counts the layout up.
+ * Numbers that were kept before there were layouts have the highest LPI in that place, 8192 or more, and so are never taken for a unit.
+ *
  * The archive for a bare Arm machine uses the general registers only, so a trap handler need save no others for a call; memcpy, memmove and
  * memset are the host's own.
  *
@@ -43,6 +48,7 @@ uint64_t its_trace(const uint8_t *trace, size_t trace_length, uint8_t *output, s
  */
 #define ITS_WORDS 608
 #define ITS_TOLD 5
+#define ITS_LAYOUT 1
 
 typedef struct {
     uint64_t words[ITS_WORDS];
@@ -53,7 +59,7 @@ typedef struct {
 } its_told;
 
 /*
- * Why a call is refused. Of its_write 20 to 26, 6, 8 and 9 are of a command in the queue: CREADR stands on it, told has its opcode (0 with 6) and
+ * Why a call is refused. Of its_write 20 to 27, 6, 8 and 9 are of a command in the queue: CREADR stands on it, told has its opcode (0 with 6) and
  * CREADR as offset, it changed nothing, and the commands before it were carried out, as many as done says, and their actions handed over. With
  * every other refusal done and actions are 0. 5 leaves what was written stored and runs nothing; its offset is CREADR. The rest change nothing, but
  * for a refused its_configure; the offset of 7 is the refused one.
@@ -76,17 +82,39 @@ enum its_refusal {
     ITS_COLLECTION_UNMAPPED = 24, /* MAPTI, MAPI, MOVI, INVALL: the collection is not mapped. */
     ITS_PAIR_UNMAPPED = 25, /* MOVI, DISCARD, INV: the device's event is not mapped. */
     ITS_PROCESSOR_UNLISTED = 26, /* MAPC: the processor is not of this unit. */
+    ITS_DEVICE_TOO_LARGE = 27, /* Strict only, before any other check of a command: it names a device above 65535. */
 };
 
-/* Makes the unit a fresh one of this configuration. Where it is refused, with 1, the unit is one that answers 1 to everything. */
-uint64_t its_configure(its_unit *unit, uint32_t lpi_limit, uint32_t command_budget, uint32_t frame_size, const uint16_t *processors,
-    size_t processor_count, its_told *told);
+/* The settings of a unit, each at its place in the row that its_configure takes. */
+#define ITS_LPI_LIMIT 0 /* The highest LPI, 8192 to 16777215. */
+#define ITS_COMMAND_BUDGET 1 /* The most commands that one write may run, 1 to 1024. */
+#define ITS_FRAME_SIZE 2 /* The frame in bytes, 65536 or 131072. */
+#define ITS_PROFILE 3 /* ITS_BASE or ITS_STRICT. */
+#define ITS_SETTINGS 4 /* So many places this version knows. */
+
+/*
+ * The profiles. Base answers as the published program, arm_vgic 0.6.2, but for the reasons of its refusals and the actions before one. Strict differs
+ * from it in three things: a valid MAPD of a mapped device first drops the device's pairs; a command that names a device above 65535 is refused with
+ * 27; and while bit 63 of CBASER is 0 the queue does not run, and no write is refused with 5.
+ */
+#define ITS_BASE 0
+#define ITS_STRICT 1
+
+/*
+ * Makes the unit a fresh one of these settings, with these processors, 1 to 16 different ones. Where that is refused, with 1, the unit is one that
+ * answers 1 to everything.
+ *
+ * A setting that is left out, since the row ends before its place, is 0. One beyond those that this version knows must be 0, else the configuration
+ * is refused. So a setting that a later version adds breaks no caller.
+ */
+uint64_t its_configure(its_unit *unit, const uint32_t *settings, size_t setting_count, const uint16_t *processors, size_t processor_count,
+    its_told *told);
 
 /* Reads a register of the frame. */
 uint64_t its_read(const its_unit *unit, uint64_t offset, uint8_t width, its_told *told);
 
 /*
- * Writes a register of the frame; an enabled unit then runs the commands that wait in its queue.
+ * Writes a register of the frame; an enabled unit then runs the commands that wait in its queue (a strict one only while bit 63 of CBASER is 1).
  *
  * The window is guest memory: window_length bytes, the first of them at the guest address window_address; the queue is read from it. The row
  * gets the actions of the INT and CLEAR that this call carried out, one number each, the first first; its numbers behind them stay as they were.

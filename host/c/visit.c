@@ -1,5 +1,6 @@
-/* A host's calls from C, from a fresh unit to a message that arrives, with what each must answer. It needs nothing of a C library: visit_main
-   is handed a function that writes a line. The archives for Linux and for a bare machine are tried with it (tools/host.sh). */
+/* A host's calls from C, from a fresh unit to a message that arrives, with what each must answer; then a strict unit beside a base one. It needs
+   nothing of a C library: visit_main is handed a function that writes a line. The archives for Linux and for a bare machine are tried with it
+   (tools/host.sh). */
 #include "its.h"
 
 enum { CTLR = 0x00, CBASER = 0x80, CWRITER = 0x88, CREADR = 0x90 };
@@ -48,13 +49,23 @@ static int is_touch(uint64_t action) {
     return its_action_lpi(action) == LPI && its_action_processor(action) == PROCESSOR && its_action_pending(action);
 }
 
-int visit_main(void (*line)(const char *)) {
+/* What its_configure answers to the first settings of this row. */
+static uint64_t configure(const uint32_t *settings, size_t count) {
     static const uint16_t processors[2] = {0, PROCESSOR};
+    used = 0;
+    return its_configure(&unit, settings, count, processors, 2, &told);
+}
+
+static uint64_t message(uint64_t device) { return its_translate(&unit, (uint32_t)device, TOUCH, &told); }
+
+/* The settings of a unit. The last place is one that this version does not know. */
+static uint32_t settings[ITS_SETTINGS + 1] = {[ITS_LPI_LIMIT] = 65535, [ITS_COMMAND_BUDGET] = 64, [ITS_FRAME_SIZE] = 65536};
+
+static void a_visit(void) {
     const uint64_t seat = (uint64_t)SEAT << 32;
-    say = line;
     check("not configured: refused with 1", its_read(&unit, CTLR, 4, &told) == 1 && is(1, 0, 0, 0, 0));
-    check("a budget of 0: refused with 1", its_configure(&unit, 65535, 0, 65536, processors, 2, &told) == 1);
-    check("a configuration", its_configure(&unit, 65535, 64, 65536, processors, 2, &told) == 0 && is(0, 0, 0, 0, 0));
+    check("a frame size left out is 0: refused with 1", configure(settings, ITS_FRAME_SIZE) == 1);
+    check("a configuration", configure(settings, ITS_SETTINGS) == 0 && is(0, 0, 0, 0, 0));
     check("a row that is too short: refused with 10", its_write(&unit, 0, queue, 0, row, 63, CTLR, 4, 1, &told) == 10);
     check("the queue's base", write(CBASER, 8, QUEUE) == 0);
     check("enabled", write(CTLR, 4, 1) == 0);
@@ -78,6 +89,68 @@ int visit_main(void (*line)(const char *)) {
     check("SYNC in its place", write(CTLR, 4, 1) == 0 && is(0, 0, 0, 1, 0));
     put(0x0f | seat, TOUCH + 1, 0);
     check("DISCARD of no pair: refused with 25", write(CWRITER, 8, used) == ITS_PAIR_UNMAPPED && is(25, 0x0f, 192, 0, 0));
+}
+
+/* The numbers that a host keeps. Under another layout's number they are no unit, and no call changes them. */
+static void a_kept_unit(void) {
+    check("the layout", unit.words[0] == ITS_LAYOUT);
+    unit.words[0] = ITS_LAYOUT + 1;
+    check("another layout, a message: refused with 1", message(SEAT) == ITS_UNSOUND);
+    check("another layout, a read: refused with 1", its_read(&unit, CTLR, 4, &told) == ITS_UNSOUND);
+    check("another layout, a write: refused with 1", write(CTLR, 4, 0) == ITS_UNSOUND && unit.words[0] == ITS_LAYOUT + 1);
+    unit.words[0] = ITS_LAYOUT;
+    check("this layout again, and the unit is as it was", message(SEAT) == 0 && its_read(&unit, CTLR, 4, &told) == 0 && is(0, 0x80000001, 0, 0, 0));
+}
+
+/* Which rows of settings are taken. The first three stand as they are above. */
+static void rows_of_settings(void) {
+    settings[ITS_PROFILE] = 2;
+    check("no such profile: refused with 1", configure(settings, ITS_SETTINGS) == 1);
+    check("the profile left out: base", configure(settings, ITS_PROFILE) == 0 && unit.words[1 + ITS_PROFILE] == ITS_BASE);
+    settings[ITS_PROFILE] = ITS_STRICT;
+    check("a setting that is not known yet, 0", configure(settings, ITS_SETTINGS + 1) == 0);
+    settings[ITS_SETTINGS] = 1;
+    check("a setting that is not known yet, 1: refused with 1", configure(settings, ITS_SETTINGS + 1) == 1);
+}
+
+/* Two seats are mapped, and then the first of them again: in base its old pair is still there, in strict it has gone. */
+static void mapped_again(uint32_t profile, uint64_t late) {
+    settings[ITS_PROFILE] = profile;
+    check("a profile", configure(settings, ITS_SETTINGS) == 0);
+    check("the queue's base, with bit 63", write(CBASER, 8, VALID | QUEUE) == 0 && write(CTLR, 4, 1) == 0);
+    put(0x09, 0, VALID | PROCESSOR << 16 | COLLECTION);
+    for (uint64_t device = SEAT; device <= SEAT + 1; device++) {
+        put(0x08 | device << 32, 3, VALID);
+        put(0x0a | device << 32, TOUCH | (LPI + device) << 32, COLLECTION);
+    }
+    put(0x08 | (uint64_t)SEAT << 32, 0, VALID);
+    check("the seats, and the first again", write(CWRITER, 8, used) == 0 && is(0, 0, 0, 6, 0));
+    check("the first seat's late message", message(SEAT) == late);
+    check("the second seat's message", message(SEAT + 1) == 0 && is(0, LPI + SEAT + 1, PROCESSOR, 0, 0));
+}
+
+/* The other two things in which a strict unit differs. It is the unit that mapped_again left. */
+static void strict(void) {
+    put(0x08 | (uint64_t)65535 << 32, 3, VALID);
+    check("MAPD of device 65535", write(CWRITER, 8, used) == 0 && is(0, 0, 0, 1, 0));
+    put(0x08 | (uint64_t)65536 << 32, 3, VALID);
+    check("MAPD of device 65536: refused with 27", write(CWRITER, 8, used) == ITS_DEVICE_TOO_LARGE && is(27, 0x08, 224, 0, 0));
+    used = 0;
+    put(0x05, 0, PROCESSOR << 16);
+    check("off, and the queue's base without bit 63", write(CTLR, 4, 0) == 0 && write(CBASER, 8, QUEUE) == 0 && write(CTLR, 4, 1) == 0);
+    check("SYNC waits", write(CWRITER, 8, used) == 0 && is(0, 0, 0, 0, 0));
+    check("CREADR stays", its_read(&unit, CREADR, 8, &told) == 0 && is(0, 0, 0, 0, 0));
+    check("more than the budget wait", write(CWRITER, 8, 65 * 32) == 0 && is(0, 0, 0, 0, 0));
+}
+
+int visit_main(void (*line)(const char *)) {
+    say = line;
+    a_visit();
+    a_kept_unit();
+    rows_of_settings();
+    mapped_again(ITS_BASE, 0);
+    mapped_again(ITS_STRICT, ITS_RESOURCE_NOT_FOUND);
+    strict();
     line(wrong ? "visit: wrong answers" : "visit: every answer as expected");
     return wrong != 0;
 }

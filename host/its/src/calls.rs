@@ -1,13 +1,12 @@
 //! The C calls of include/its.h.
 
-use crate::{Action, Configuration, Delivery, DeviceId, EventId, Lpi, Processor, WORDS, Window};
+use crate::{Action, Delivery, DeviceId, EventId, Lpi, Processor, WORDS, Window};
 
 unsafe extern "C" {
     fn its_configure(
         unit: *mut u64,
-        lpi_limit: u32,
-        command_budget: u32,
-        frame_size: u32,
+        settings: *const u32,
+        setting_count: usize,
         processors: *const u16,
         processor_count: usize,
         told: *mut u64,
@@ -83,15 +82,17 @@ impl Answer {
 
 #[inline]
 
-pub(crate) fn configure(unit: &mut [u64; WORDS], configuration: &Configuration<'_>) -> Answer {
+pub(crate) fn configure(
+    unit: &mut [u64; WORDS],
+    settings: &[u32],
+    processors: &[Processor],
+) -> Answer {
     let mut told = [0; 5];
-    let processors = configuration.processors;
     unsafe {
         its_configure(
             unit.as_mut_ptr(),
-            configuration.lpi_limit,
-            configuration.command_budget,
-            configuration.frame_size,
+            settings.as_ptr(),
+            settings.len(),
             // A tuple of one number has the number's layout.
             processors.as_ptr().cast(),
             processors.len(),
@@ -143,4 +144,52 @@ pub(crate) fn translate(unit: &[u64; WORDS], device: DeviceId, event: EventId) -
     let mut told = [0; 5];
     unsafe { its_translate(unit.as_ptr(), device.0, event.0, told.as_mut_ptr()) };
     Answer(told)
+}
+
+#[cfg(test)]
+mod tests {
+    use super::configure;
+    use crate::{LAYOUT, Processor, WORDS};
+
+    const ROOM: usize = 40;
+
+    /// The words that a configuration with the first settings of this row leaves,
+    /// or none where it is refused, with 1.
+    fn configured(settings: &[u32]) -> Option<[u64; WORDS]> {
+        let mut unit = [u64::MAX; WORDS];
+        match configure(&mut unit, settings, &[Processor(0)]).refusal() {
+            0 => Some(unit),
+            refusal => {
+                assert_eq!(refusal, 1);
+                None
+            }
+        }
+    }
+
+    #[test]
+    fn a_setting_left_out_is_0_and_one_beyond_must_be() {
+        let mut row = [0; ROOM];
+        row[..3].copy_from_slice(&[65_535, 64, 65_536]);
+        let base = configured(&row[..3]).expect("the profile is left out");
+        assert_eq!(base[..5], [LAYOUT, 65_535, 64, 65_536, 0]);
+        for count in 4..=ROOM {
+            assert_eq!(configured(&row[..count]), Some(base));
+            let mut more = row;
+            more[count - 1] = 1;
+            // The fourth is the profile, and 1 is strict; those behind it have no
+            // meaning yet.
+            assert_eq!(configured(&more[..count]).is_some(), count == 4);
+        }
+        for count in 0..3 {
+            assert_eq!(configured(&row[..count]), None, "0 is outside the sizes");
+        }
+    }
+
+    #[test]
+    fn only_two_profiles() {
+        // 256 and 257 are 0 and 1 in their lowest byte.
+        for profile in [2, 255, 256, 257, 1 << 16, 1 << 31, u32::MAX] {
+            assert_eq!(configured(&[65_535, 64, 65_536, profile]), None);
+        }
+    }
 }

@@ -10,12 +10,19 @@ mod calls;
 pub mod command;
 mod numbers;
 mod refusal;
+mod settings;
 
-pub use numbers::{Action, CollectionId, Configuration, DeviceId, EventId, Lpi, Processor, Window};
+pub use numbers::{Action, CollectionId, DeviceId, EventId, Lpi, Processor, Window};
 pub use refusal::{Refusal, WriteRefused};
+pub use settings::{Profile, Settings};
 
 /// How many words a unit is.
 pub const WORDS: usize = 608;
+
+/// The layout of these words: the first of them holds its number. Under another
+/// one they are a unit that is not configured, and no call but
+/// [`Its::configure`] changes them.
+pub const LAYOUT: u64 = 1;
 
 /// An action row that is long enough for any command budget.
 pub type Row = [Action; 1024];
@@ -48,11 +55,29 @@ impl Its {
         Self([0; WORDS])
     }
 
-    /// Makes the unit a fresh one of this configuration, or, where it is
-    /// refused, one that is not configured.
+    /// The unit that a host kept as words. Any words are taken: where they are of
+    /// another [`LAYOUT`], or of no unit, every call is refused with 1.
     #[inline]
-    pub fn configure(&mut self, configuration: &Configuration<'_>) -> Result<(), Refusal> {
-        Refusal::of(calls::configure(&mut self.0, configuration).refusal())
+    pub const fn of_words(words: [u64; WORDS]) -> Self {
+        Self(words)
+    }
+
+    /// The words, for a host that keeps them.
+    #[inline]
+    pub const fn words(&self) -> &[u64; WORDS] {
+        &self.0
+    }
+
+    /// Makes the unit a fresh one of these settings, with these processors: 1 to
+    /// 16 different ones. Where that is refused, with 1, it is one that is not
+    /// configured.
+    #[inline]
+    pub fn configure(
+        &mut self,
+        settings: &Settings,
+        processors: &[Processor],
+    ) -> Result<(), Refusal> {
+        Refusal::of(calls::configure(&mut self.0, &settings.row(), processors).refusal())
     }
 
     /// Reads a register of the frame.

@@ -21,17 +21,6 @@ pub struct Lpi(pub u32);
 #[repr(transparent)]
 pub struct Processor(pub u16);
 
-/// What a unit is made with. It is refused with 1 unless the highest LPI is
-/// 8192 to 16777215, the budget 1 to 1024, the frame 65536 or 131072 bytes, and
-/// the processors 1 to 16 different ones.
-#[derive(Clone, Copy, Debug)]
-pub struct Configuration<'a> {
-    pub lpi_limit: u32,
-    pub command_budget: u32,
-    pub frame_size: u32,
-    pub processors: &'a [Processor],
-}
-
 /// Guest memory lent for one call: bytes, and the guest address of the first.
 #[derive(Clone, Copy, Debug)]
 pub struct Window<'a> {

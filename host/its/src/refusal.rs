@@ -84,6 +84,9 @@ refusals! {
     PairUnmapped = 25, "the device's event is not mapped: MAPTI or MAPI comes first";
     /// MAPC: the processor is not of this unit.
     ProcessorUnlisted = 26, "the processor is none of those that the unit was configured with";
+    /// Strict only, before any other check of a command: it names a device above
+    /// 65535.
+    DeviceTooLarge = 27, "the device's number is above 65535, the highest that TYPER announces";
 }
 
 impl fmt::Display for Refusal {
@@ -115,7 +118,7 @@ impl WriteRefused {
     /// those before it were carried out, and their actions handed over.
     #[inline]
     pub fn is_of_a_command(&self) -> bool {
-        matches!(self.refusal.number(), 6 | 8 | 9 | 20..=26)
+        matches!(self.refusal.number(), 6 | 8 | 9 | 20..=27)
     }
 
     #[inline]
@@ -155,7 +158,7 @@ mod tests {
         for number in 1..300 {
             let refusal = Refusal::of(number).unwrap_err();
             assert_eq!(refusal.number(), number);
-            let named = matches!(number, 1..=10 | 20..=26);
+            let named = matches!(number, 1..=10 | 20..=27);
             assert_eq!(matches!(refusal, Refusal::Unnamed(_)), !named);
         }
     }

@@ -1,71 +1,14 @@
 //! A host's calls, from a fresh unit to a message that arrives.
 
+mod common;
+
+use common::{CREADR, CTLR, CWRITER, Host, SETTINGS};
+use its::Profile::Base;
 use its::command::{
     Command, clear, discard, int, inv, invall, mapc, mapd, mapi, mapti, movi, sync,
 };
-use its::{Action, CollectionId, Configuration, DeviceId, EventId, Its, Lpi, Processor};
+use its::{Action, CollectionId, DeviceId, EventId, Its, Lpi, Processor};
 use its::{Refusal, Window, WriteRefused, Written};
-
-const CTLR: u64 = 0x00;
-const CBASER: u64 = 0x80;
-const CWRITER: u64 = 0x88;
-const CREADR: u64 = 0x90;
-const QUEUE: u64 = 0x4_0000;
-
-/// An action as its host delivers it: made pending, or taken back.
-type Delivered = (Lpi, Processor, bool);
-type Answer = (Vec<Delivered>, Result<Written, WriteRefused>);
-
-struct Host {
-    its: Its,
-    queue: Vec<u8>,
-}
-
-impl Host {
-    fn new() -> Self {
-        let mut its = Its::new();
-        its.configure(&Configuration {
-            lpi_limit: 65_535,
-            command_budget: 64,
-            frame_size: 65_536,
-            processors: &[Processor(0), Processor(3)],
-        })
-        .unwrap();
-        let mut host = Self {
-            its,
-            queue: Vec::new(),
-        };
-        host.write(CBASER, 8, QUEUE).1.unwrap();
-        host.write(CTLR, 4, 1).1.unwrap();
-        host
-    }
-
-    /// A write with an empty row: what is delivered after it, and its answer. The
-    /// row's other records stay empty.
-    fn write(&mut self, offset: u64, width: u8, value: u64) -> Answer {
-        let mut row = [Action::default(); 64];
-        let window = Window {
-            address: QUEUE,
-            bytes: &self.queue,
-        };
-        let (actions, answer) = self.its.write(window, &mut row, offset, width, value);
-        let parts = |action: &Action| (action.lpi(), action.processor(), action.pending());
-        let delivered: Vec<Delivered> = actions.iter().map(parts).collect();
-        let count = answer.map_or_else(|refused| refused.actions, |written| written.actions);
-        assert_eq!(delivered.len(), count);
-        assert!(
-            row[count..]
-                .iter()
-                .all(|action| *action == Action::default())
-        );
-        (delivered, answer)
-    }
-
-    fn run(&mut self, commands: &[Command]) -> Answer {
-        self.queue.extend(commands.iter().flatten());
-        self.write(CWRITER, 8, self.queue.len() as u64)
-    }
-}
 
 const SEAT: DeviceId = DeviceId(7);
 const TOUCH: EventId = EventId(2);
@@ -80,7 +23,7 @@ const MOVALL: Command = {
 
 #[test]
 fn a_message_arrives() {
-    let mut host = Host::new();
+    let mut host = Host::new(Base);
     assert_eq!(
         host.its.translate(SEAT, TOUCH),
         Err(Refusal::ResourceNotFound)
@@ -108,7 +51,7 @@ fn a_message_arrives() {
 
 #[test]
 fn a_refused_command_says_where() {
-    let mut host = Host::new();
+    let mut host = Host::new(Base);
     let (_, refused) = host.run(&[mapd(SEAT, 4), discard(SEAT, TOUCH)]);
     assert_eq!(
         refused,
@@ -124,7 +67,7 @@ fn a_refused_command_says_where() {
 
 /// A run of MAPD, MAPC and then this command, which is refused.
 fn refused(command: Command) -> WriteRefused {
-    let mut host = Host::new();
+    let mut host = Host::new(Base);
     let first = [mapd(SEAT, 4), mapc(CollectionId(1), Processor(3))];
     host.run(&[first[0], first[1], command]).1.unwrap_err()
 }
@@ -160,7 +103,7 @@ fn each_reason_of_a_command_has_its_number() {
 
 /// A host whose guest has mapped the seat's two messages. CREADR is 128 then.
 fn seated() -> Host {
-    let mut host = Host::new();
+    let mut host = Host::new(Base);
     let mapped = host.run(&[
         mapd(SEAT, 4),
         mapc(CollectionId(1), Processor(3)),
@@ -253,7 +196,7 @@ fn a_refusal_in_words() {
         refused(mapti(DeviceId(8), TOUCH, Lpi(8_200), CollectionId(1))).to_string(),
         "command at 0x40 of the queue, opcode 0x0a, refused with 22: the device is not mapped: MAPD with V 1 comes first"
     );
-    let writer = Host::new().write(CWRITER, 8, 33).1.unwrap_err();
+    let writer = Host::new(Base).write(CWRITER, 8, 33).1.unwrap_err();
     assert_eq!(writer.refusal, Refusal::WriterRefused);
     assert!(!writer.is_of_a_command());
     assert!(
@@ -268,20 +211,14 @@ fn no_call_before_a_configuration() {
     let mut its = Its::new();
     assert_eq!(its.read(CTLR, 4), Err(Refusal::Unsound));
     assert_eq!(its.translate(SEAT, TOUCH), Err(Refusal::Unsound));
-    let two = [Processor(1), Processor(1)];
-    let refused = its.configure(&Configuration {
-        lpi_limit: 65_535,
-        command_budget: 64,
-        frame_size: 65_536,
-        processors: &two,
-    });
+    let refused = its.configure(&SETTINGS, &[Processor(1), Processor(1)]);
     assert_eq!(refused, Err(Refusal::Unsound));
     assert_eq!(its.read(CTLR, 4), Err(Refusal::Unsound));
 }
 
 #[test]
 fn a_row_that_is_too_short() {
-    let mut host = Host::new();
+    let mut host = Host::new(Base);
     let window = Window {
         address: 0,
         bytes: &[],

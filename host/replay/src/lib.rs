@@ -5,8 +5,8 @@
 
 use std::io::Write as _;
 
-use its::{Action, Configuration, DeviceId, EventId, Its, Processor, Row, Window};
-use oracle::record::{self, Record, Records};
+use its::{Action, DeviceId, EventId, Its, Processor, Profile, Row, Settings, Window};
+use oracle::record::{Configuration, Record, Records};
 
 pub struct Host {
     its: Its,
@@ -65,14 +65,12 @@ impl Host {
         }
     }
 
-    fn start(&mut self, given: &record::Configuration) {
+    fn start(&mut self, given: &Configuration) {
         let processors: Vec<Processor> = given.processors.iter().copied().map(Processor).collect();
-        let configured = self.its.configure(&Configuration {
-            lpi_limit: given.limit,
-            command_budget: given.budget,
-            frame_size: given.frame,
-            processors: &processors,
-        });
+        // Whatever the profile's byte is, the unit says whether it knows it.
+        let settings = Settings::new(given.limit, given.budget, given.frame)
+            .profile(Profile::of(given.profile.into()));
+        let configured = self.its.configure(&settings, &processors);
         let refusal = configured.map_or_else(|refusal| refusal.number(), |()| 0);
         self.say(format_args!("CF {refusal}"));
     }
@@ -124,4 +122,56 @@ impl Host {
 
 fn say(lines: &mut Vec<u8>, line: std::fmt::Arguments<'_>) {
     writeln!(lines, "{line}").expect("a vector takes every byte");
+}
+
+#[cfg(test)]
+mod tests {
+    use oracle::record::Record;
+
+    use super::replay;
+
+    /// A CF with this profile, byte by byte: that of a trace is held against the
+    /// paper here, and not against its own writer.
+    fn cf(profile: u8, count: u8) -> Vec<u8> {
+        let mut trace = b"CF".to_vec();
+        trace.extend([0xff, 0xff, 0, 0, 64, 0, 0, 0, 0, 0, 1, 0]);
+        trace.extend([profile, count]);
+        trace.extend([3, 0].repeat(count.into()));
+        trace
+    }
+
+    #[test]
+    fn a_profile_is_passed_on() {
+        let mut sync = vec![0; 32];
+        sync[0] = 5;
+        // Bit 63 of CBASER is 0, so that a strict unit does not run the SYNC.
+        let records = [(0x80, 8, 0x4_0000), (0x00, 4, 1), (0x88, 8, 32)];
+        for profile in 0..=255 {
+            let mut trace = cf(profile, 1);
+            let (address, bytes) = (0x4_0000, sync.clone());
+            Record::Gm { address, bytes }.encode(&mut trace);
+            for (offset, width, value) in records {
+                Record::Wr {
+                    offset,
+                    width,
+                    value,
+                }
+                .encode(&mut trace);
+            }
+            let right = match profile {
+                0 => "CF 0\nGM 0\nWR 0 0 0 0 0\nWR 0 0 0 0 0\nWR 0 0 0 1 0\n",
+                1 => "CF 0\nGM 0\nWR 0 0 0 0 0\nWR 0 0 0 0 0\nWR 0 0 0 0 0\n",
+                _ => "CF 1\nGM 0\nWR 1 0 0 0 0\nWR 1 0 0 0 0\nWR 1 0 0 0 0\n",
+            };
+            assert_eq!(replay(&trace), right.as_bytes(), "{profile}");
+        }
+    }
+
+    #[test]
+    fn the_shortest_cf_is_16_bytes() {
+        let trace = cf(1, 0);
+        assert_eq!(replay(&trace), b"CF 1\n");
+        assert_eq!(trace.len(), 16);
+        assert_eq!(replay(&trace[..15]), b"?? 0\n");
+    }
 }
