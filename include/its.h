@@ -93,7 +93,7 @@ enum its_refusal {
 #define ITS_SETTINGS 4 /* So many places this version knows. */
 
 /*
- * The profiles. Base answers as the published program, arm_vgic 0.6.2, but for the reasons of its refusals and the actions before one. Strict differs
+ * The profiles. Base answers as the published program, arm_vgic 0.6.2, but for what docs/DIFFERENCES.md lists as S01 and on. Strict differs
  * from it in three things: a valid MAPD of a mapped device first drops the device's pairs; a command that names a device above 65535 is refused with
  * 27; and while bit 63 of CBASER is 0 the queue does not run, and no write is refused with 5.
  */

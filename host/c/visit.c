@@ -102,11 +102,14 @@ static void a_kept_unit(void) {
     check("this layout again, and the unit is as it was", message(SEAT) == 0 && its_read(&unit, CTLR, 4, &told) == 0 && is(0, 0x80000001, 0, 0, 0));
 }
 
+/* Where the profile stands among the words of this layout (crates/lent_tables/specs/Numbers.antt). For a test; a host need not look. */
+enum { PROFILE_WORD = 4 };
+
 /* Which rows of settings are taken. The first three stand as they are above. */
 static void rows_of_settings(void) {
     settings[ITS_PROFILE] = 2;
     check("no such profile: refused with 1", configure(settings, ITS_SETTINGS) == 1);
-    check("the profile left out: base", configure(settings, ITS_PROFILE) == 0 && unit.words[1 + ITS_PROFILE] == ITS_BASE);
+    check("the profile left out: base", configure(settings, ITS_PROFILE) == 0 && unit.words[PROFILE_WORD] == ITS_BASE);
     settings[ITS_PROFILE] = ITS_STRICT;
     check("a setting that is not known yet, 0", configure(settings, ITS_SETTINGS + 1) == 0);
     settings[ITS_SETTINGS] = 1;

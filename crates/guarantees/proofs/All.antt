@@ -16,7 +16,10 @@ use Rattle.guarantees.proofs.Leaves.{read-leaves, translate-leaves}
 use Rattle.guarantees.proofs.Unsound.{unsound-answers-1, sound-never-1, no-unit-answers-1, refused-configuration}
 use Rattle.guarantees.proofs.Again.{tries-again}
 use Rattle.guarantees.proofs.Later.{tried-later}
-use Rattle.guarantees.proofs.Profiles.{base-as-01, base-led, base-configured, profiles-alike, verdicts-alike}
+use Rattle.guarantees.proofs.Profiles.{base-as-01, base-led, base-configured, base-call-configured, profiles-alike, verdicts-alike, calls-begin, calls-go-on}
+use Rattle.guarantees.proofs.Traces.{base-traces, traces-alike}
+use Rattle.guarantees.proofs.Holding.{held-stores, another-layout}
+use Rattle.guarantees.proofs.ExampleAlike.{example-strict}
 
 pub theorems : Theorems
 theorems =
@@ -29,8 +32,16 @@ theorems =
       base-as-01 = base-as-01;
       base-led = base-led;
       base-configured = base-configured;
+      base-call-configured = base-call-configured;
+      base-traces = base-traces;
+      held-stores = held-stores;
       profiles-alike = profiles-alike;
       verdicts-alike = verdicts-alike;
+      calls-begin = calls-begin;
+      calls-go-on = calls-go-on;
+      traces-alike = traces-alike;
+      example-strict = example-strict;
+      another-layout = another-layout;
       actions-given = actions-given;
       call-actions-given = call-actions-given;
       actions-firm = actions-firm;

@@ -44,7 +44,7 @@ translates-as : (u : ItsState) (d : ItsDeviceId) (e : EventId) → Translates u 
 translates-as u d e = record { answer = refl; numbers = refl }
 
 -- a configuration whose number is 0 was accepted
-accepted : (k : ItsConfig) → verdictNumber (configure k .verdict) ≡ 0 → configure k .verdict ≡ Accepted
+pub accepted : (k : ItsConfig) → verdictNumber (configure k .verdict) ≡ 0 → configure k .verdict ≡ Accepted
 unfolding configure
 accepted k h = cases (soundConfig k) (λ e. rw e) (λ e. absurd (omega (arith, rw e at h)))
 

@@ -17,4 +17,7 @@ pub mod ExampleLed
 pub mod Again
 pub mod Later
 pub mod Profiles
+pub mod Holding
+pub mod Traces
+pub mod ExampleAlike
 pub mod All

@@ -3,7 +3,7 @@
 use Prim.Native.Nat.{ℕ}
 use mathlib.Core.Path.{_≡_, refl, sym, ap, ap₂, subst, _∙_}
 use mathlib.Core.Bool.{true}
-use mathlib.Core.List.{List, map}
+use mathlib.Core.List.{List, [], _∷_, map}
 use lib.ListN.{getD}
 use Rattle.model.specs.declared.ItsConfig.{ItsConfig}
 use Rattle.model.specs.declared.ItsState.{ItsState}
@@ -19,18 +19,21 @@ use Rattle.model.specs.Entry.{configure, stores, write}
 use Rattle.model.specs.In01.{configureIn01}
 use Rattle.model.specs.Common.{inProfile, CommonWrite}
 use Rattle.model.specs.Trace.{Record, CF, GM, RD, WR, TR, line, readLine, translateLine, writeLines, lentRow, writeOf, linesOf}
+use Rattle.model.proofs.Cases.{cases}
 use Rattle.model.proofs.Profiles.{base-reads, base-translates, base-writes, base-configures}
 use Rattle.model.proofs.Alike.{same-reads, same-translates, same-writes, same-made, same-stores, same-verdict, same-fresh, fresh-base}
 use Rattle.its.specs.Contracts.{Configures, Writes}
-use Rattle.host.specs.Calls.{Tells, numbersOfRead, numbersOfWrite, numbersOfTranslation, actionIn, rowWith, actionsMade, CallReads, CallWrites, CallTranslates}
+use Rattle.host.specs.Calls.{Tells, numbersOfRead, numbersOfWrite, numbersOfTranslation, actionIn, rowWith, actionsMade, setting, noneFurther, configGiven, numbersOfVerdict, CallConfigures, CallReads, CallWrites, CallTranslates}
 use Rattle.guarantees.specs.MappingsInForce.{Led}
 use Rattle.guarantees.specs.Profiles.{standing, linesIn01, InBase, As01, LedAlike, both-begin, both-write, CommonRecord, AnswerAlike}
 use Rattle.guarantees.proofs.Follows.{commands-follow}
 use Rattle.guarantees.proofs.InForce.{mappings-in-force}
+use Rattle.guarantees.proofs.AsWrites.{call-writes}
+use Rattle.guarantees.proofs.ByCalls.{accepted}
 
 -- A BASE UNIT.
 module _ (u : ItsState) (b : u .config .profile ≡ 0) where
-  lines-as-01 : (w : Window) (r : Record) → InBase r → linesOf (standing u w) r ≡ linesIn01 (standing u w) r
+  pub lines-as-01 : (w : Window) (r : Record) → InBase r → linesOf (standing u w) r ≡ linesIn01 (standing u w) r
   unfolding writeOf
   lines-as-01 w (CF k) c = rw (base-configures k c)
   lines-as-01 w (GM v) c = refl
@@ -67,21 +70,22 @@ pub base-configured : (k : ItsConfig) → k .profile ≡ 0 → (c : Configured) 
 base-configured k b c e = e .answer ∙ base-configures k b
 
 -- BOTH PROFILES.
+
+-- two calls that tell the same
+told-alike : (m n : List ℕ) → n ≡ m → (r r′ : ℕ) (told told′ : List ℕ) → Tells m r told → Tells n r′ told′ → (r′ ≡ r) × (told′ ≡ told)
+told-alike m n e r r′ told told′ p q = (q .1 ∙ (ap (λ l. getD l 0 0) e ∙ sym (p .1)), q .0 ∙ (e ∙ sym (p .0)))
+
 module _ (u : ItsState) (b : u .config .profile ≡ 0) where
   abbrev v : ItsState
   v = inProfile 1 u
 
-  lines-alike : (w : Window) (r : Record) → CommonRecord (standing u w) r → linesOf (standing v w) r ≡ linesOf (standing u w) r
+  pub lines-alike : (w : Window) (r : Record) → CommonRecord (standing u w) r → linesOf (standing v w) r ≡ linesOf (standing u w) r
   unfolding writeOf
   lines-alike w (CF k) c = refl
   lines-alike w (GM x) c = refl
   lines-alike w (RD offset width) c = rw (same-reads u b offset width)
   lines-alike w (WR offset width value) c = rw (same-writes u b w lentRow offset width value c)
   lines-alike w (TR d e) c = rw (same-translates u b d e)
-
-  -- two that tell the same
-  told-alike : (m n : List ℕ) → n ≡ m → (r r′ : ℕ) (told told′ : List ℕ) → Tells m r told → Tells n r′ told′ → (r′ ≡ r) × (told′ ≡ told)
-  told-alike m n e r r′ told told′ p q = (q .1 ∙ (ap (λ l. getD l 0 0) e ∙ sym (p .1)), q .0 ∙ (e ∙ sym (p .0)))
 
   alike : AnswerAlike u v
   alike =
@@ -131,3 +135,38 @@ profiles-alike {u = u} l =
 
 pub verdicts-alike : (k : ItsConfig) (c c′ : Configured) → Configures (withProfile k 0) c → Configures (withProfile k 1) c′ → c′ .verdict ≡ c .verdict
 verdicts-alike k c c′ e e′ = ap (λ z. z .verdict) (e′ .answer) ∙ (same-verdict k ∙ ap (λ z. z .verdict) (sym (e .answer)))
+
+-- THE CALL THAT CONFIGURES.
+
+given-base : (ss ps : List ℕ) → setting ss 3 ≡ 0 → configGiven ss ps .profile ≡ 0
+given-base ss ps b = cases (noneFurther ss) (λ y. rw y b) (λ n. rw n)
+
+pub base-call-configured : (ss ps : List ℕ) → setting ss 3 ≡ 0 → (u : ItsState) (r : ℕ) (told : List ℕ) → CallConfigures ss ps u r told →
+    (u ≡ configureIn01 (configGiven ss ps) .unit) × Tells (numbersOfVerdict (configureIn01 (configGiven ss ps))) r told
+base-call-configured ss ps b u r told c =
+    let same = base-configures (configGiven ss ps) (given-base ss ps b) in
+    (c .0 ∙ ap (λ z. z .unit) same, subst (λ z. Tells (numbersOfVerdict z) r told) same (c .1))
+
+-- in both profiles
+pub calls-begin : (limit budget frame : ℕ) (ps : List ℕ) (u v : ItsState) (r r′ : ℕ) (told told′ : List ℕ) →
+    CallConfigures (limit ∷ budget ∷ frame ∷ 0 ∷ []) ps u r told → CallConfigures (limit ∷ budget ∷ frame ∷ 1 ∷ []) ps v r′ told′ →
+    (r′ ≡ r) × (told′ ≡ told) × (r ≡ 0 → LedAlike (configGiven (limit ∷ budget ∷ frame ∷ []) ps) u v)
+unfolding noneFurther
+calls-begin limit budget frame ps u v r r′ told told′ c c′ =
+    let k = configGiven (limit ∷ budget ∷ frame ∷ []) ps in
+    let t = told-alike (numbersOfVerdict (configure (withProfile k 0))) (numbersOfVerdict (configure (withProfile k 1)))
+    (ap (λ z. verdictNumber z ∷ 0 ∷ 0 ∷ 0 ∷ 0 ∷ []) (same-verdict k)) r r′ told told′ (c .1) (c′ .1) in (
+      t .0,
+      t .1,
+      λ z. subst (λ x. LedAlike k x v) (sym (c .0)) (subst (λ x. LedAlike k (configure (withProfile k 0) .unit) x) (sym (c′ .0))
+          (both-begin (configure (withProfile k 0)) (configure (withProfile k 1)) (record { answer = refl; numbers = refl }) (record { answer = refl; numbers = refl })
+          (accepted (withProfile k 0) (sym (c .1 .1) ∙ z)))),
+    )
+
+pub calls-go-on : {k : ItsConfig} {u v : ItsState} → LedAlike k u v → (w : Window) (row : List ℕ) (offset width value : ℕ) →
+    CommonWrite w u (stores (map actionIn row) u offset width value) → (left left′ : ItsState) (after after′ : List ℕ) (r r′ : ℕ) (told told′ : List ℕ) →
+    CallWrites w row u offset width value left after r told → CallWrites w row v offset width value left′ after′ r′ told′ → LedAlike k left left′
+calls-go-on {u = u} {v = v} l w row offset width value c left left′ after after′ r r′ told told′ x x′ =
+    let (a, (y, t)) = call-writes w row u offset width value left after r told x in
+    let (a′, (y′, t′)) = call-writes w row v offset width value left′ after′ r′ told′ x′ in
+    both-write l w (map actionIn row) offset width value c (record { unit = left; answer = a }) (record { unit = left′; answer = a′ }) (map actionIn after) (map actionIn after′) y y′

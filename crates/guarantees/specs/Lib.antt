@@ -9,4 +9,6 @@ pub mod CallsInForce
 pub mod Retries
 pub mod Profiles
 pub mod ExampleCalls
+pub mod Traces
+pub mod ExampleStrict
 pub mod Theorems

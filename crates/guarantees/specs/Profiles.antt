@@ -1,5 +1,5 @@
--- Document 02, A3, over the contracts of the entries and of the C calls, and over the records of a trace. A base unit is document 01's, as if there were no
--- profile; and where the profiles agree (model: Common) both answer alike, over whole runs.
+-- Document 02, A3, over the contracts of the entries and of the C calls, and over a record of a trace (whole traces: Traces). A base unit is document 01's,
+-- with A1 and A2 and as if there were no profile; and where the profiles agree (model: Common) both answer alike, over whole runs.
 -- Assumes nothing.
 use Prim.Native.Nat.{ℕ}
 use mathlib.Core.Path.{_≡_}
@@ -9,12 +9,14 @@ use Rattle.model.specs.declared.EventId.{EventId}
 use Rattle.model.specs.declared.ItsConfig.{ItsConfig}
 use Rattle.model.specs.declared.ItsState.{ItsState}
 use Rattle.model.specs.declared.ItsAction.{ItsAction}
+use Rattle.model.specs.declared.RegisterWrite.{RegisterWrite}
+use Rattle.model.specs.declared.WriteAnswer.the-variants.{Taken}
 use Rattle.model.specs.declared.Verdict.the-variants.{Accepted}
 use Rattle.model.specs.declared.ReadAnswer.{ReadAnswer}
 use Rattle.model.specs.declared.TranslateAnswer.{TranslateAnswer}
 use Rattle.model.specs.declared.Configured.{Configured}
 use Rattle.model.specs.declared.Written.{Written}
-use Rattle.model.specs.With.{withProfile}
+use Rattle.model.specs.With.{withRegisters, withProfile}
 use Rattle.model.specs.Refusal.{verdictNumber, readNumbers, translateNumbers}
 use Rattle.model.specs.Queue.{Window}
 use Rattle.model.specs.Entry.{Outcome, stores}
@@ -29,7 +31,7 @@ use Rattle.guarantees.specs.MappingsInForce.{OfWritesTo}
 abbrev pub standing : ItsState → Window → Running
 standing u w = record { unit = u; window = w }
 
--- A BASE UNIT IS DOCUMENT 01'S (model: In01).
+-- A BASE UNIT IS DOCUMENT 01'S, with A1 and A2 (model: In01).
 
 -- the lines of a record, from what 01's unit answers
 abbrev pub linesIn01 : Running → Record → List (List ℕ)
@@ -66,6 +68,10 @@ pub record As01 (u : ItsState) : Type 0 where
       × Tells (numbersOfWrite (writeIn01 w (map actionIn row) u offset width value .written .answer)) r told
   -- and a record of a trace has the same lines
   pub records : (w : Window) (r : Record) → InBase r → linesOf (standing u w) r ≡ linesIn01 (standing u w) r
+
+-- STRICT, of a queue that is held (model: Queue.held): what was written is stored, the answer is 0, and the row stays.
+abbrev pub OnlyStores : List ItsAction → ItsState → RegisterWrite → Written → List ItsAction → Type 0
+OnlyStores row u s r left = (r ≡ record { unit = withRegisters u (s .registers); answer = Taken 0 0 }) × (left ≡ row)
 
 -- WHERE THE PROFILES AGREE.
 

@@ -88,7 +88,7 @@ pub record TooLarge (u : ItsState) (x : Command) : Type 0 where
 pub data Because (u : ItsState) : Command → Refusal → Type 0 where
   -- 27: before any other check
   too-large : {x : Command} → TooLarge u x → Because u x DeviceTooLarge
-  -- the others, where that one holds
+  -- the others, of a command whose device is not too large
   in-01 : {x : Command} {why : Refusal} → (TooLarge u x → ⊥) → BecauseIn01 u x why → Because u x why
 
 -- the words of the command on which CREADR stands

@@ -25,14 +25,16 @@ use Rattle.model.specs.Refusal.{numberOf, reasons, numberIn01, folded}
 use Rattle.model.specs.Config.{soundUnit}
 use Rattle.model.specs.Profile.{Profile, profileOf}
 use Rattle.model.specs.Step.{check}
-use Rattle.model.specs.Queue.{Window, stays, turn}
+use Rattle.model.specs.Queue.{Window, stays, turn, held}
 use Rattle.model.specs.With.{withProfile}
 use Rattle.model.specs.Entry.{stores}
 use Rattle.model.specs.In01.{configureIn01}
-use Rattle.model.specs.Trace.{lentRow}
+use Rattle.model.specs.Common.{CommonWrite}
+use Rattle.model.specs.Trace.{Record, Running, atStart, lentRow}
 use Rattle.its.specs.declared.WrittenRow.{WrittenRow}
 use Rattle.its.specs.Contracts.{NoUnit, Configures, Reads, Writes, WritesLent, Translates}
-use Rattle.host.specs.Calls.{Tells, numbersOfWrite, actionIn, CallWrites}
+use Rattle.lent_tables.specs.Numbers.{laidOut, unitIn}
+use Rattle.host.specs.Calls.{Tells, numbersOfVerdict, numbersOfWrite, actionIn, setting, configGiven, CallConfigures, CallWrites}
 use Rattle.guarantees.specs.Firm.{Answered, Firm, OfEveryEntry}
 use Rattle.guarantees.specs.Actions.{ActionsOf, ActionsGiven, CallActionsGiven}
 use Rattle.guarantees.specs.Refusals.{at-command, givenAt, IfRefused, ReadLeaves, TranslateLeaves, AnswersOne, NeverOne}
@@ -42,7 +44,9 @@ use Rattle.guarantees.specs.Follows.{RingFollows, CommandsFollow, Refusa
 use Rattle.guarantees.specs.MappingsInForce.{Led, OfWritesTo, MappingsInForce}
 use Rattle.guarantees.specs.CallsInForce.{LedByCalls, OfCallsTo, CallsInForce}
 use Rattle.guarantees.specs.Retries.{Tries, TriesAgain, TriedLater}
-use Rattle.guarantees.specs.Profiles.{As01, LedAlike, AnswerAlike}
+use Rattle.guarantees.specs.Profiles.{As01, OnlyStores, LedAlike, AnswerAlike}
+use Rattle.guarantees.specs.Traces.{linesAfter, linesAfterIn01, AllInBase, CommonAlong, inStrict}
+use Rattle.guarantees.specs.ExampleStrict.{ExampleStrict}
 use Rattle.guarantees.specs.ExampleCalls.{ExampleByEntries, ExampleByCalls}
 
 -- of every call of `write_its`, with any window, row, unit, offset, width and value, and of what it answers and leaves in the row
@@ -61,16 +65,35 @@ pub record Theorems : Type 0 where
   -- NEITHER IS EMPTY: 01's example is such a run (ExampleCalls)
   pub example-by-entries : ExampleByEntries
   pub example-by-calls : ExampleByCalls
-  -- A BASE UNIT IS DOCUMENT 01'S (Profiles; 02, A3): every unit of that profile, also one that was built by hand
+  -- A BASE UNIT IS DOCUMENT 01'S, with A1 and A2, as before A3 (Profiles): every unit of that profile, also one that was built by hand
   pub base-as-01 : (u : ItsState) → u .config .profile ≡ 0 → As01 u
   -- so over whole runs every unit to which calls led from a base configuration
   pub base-led : {k : ItsConfig} {u : ItsState} {h : List Command} → k .profile ≡ 0 → Led k u h → As01 u
   -- and such a configuration is accepted or refused, and gives a unit, as in 01
   pub base-configured : (k : ItsConfig) → k .profile ≡ 0 → (c : Configured) → Configures k c → c ≡ configureIn01 k
+  -- by its_configure too: setting 3, left out or 0, is base
+  pub base-call-configured : (ss ps : List ℕ) → setting ss 3 ≡ 0 → (u : ItsState) (r : ℕ) (told : List ℕ) → CallConfigures ss ps u r told →
+      (u ≡ configureIn01 (configGiven ss ps) .unit) × Tells (numbersOfVerdict (configureIn01 (configGiven ss ps))) r told
+  -- and a whole trace whose configurations are in base has the lines of 01's unit (Traces)
+  pub base-traces : (s : Running) → s .unit .config .profile ≡ 0 → (rs : List Record) → AllInBase rs → linesAfter s rs ≡ linesAfterIn01 s rs
+  -- STRICT: a queue that is held runs nothing (Profiles), on every unit. (A valid MAPD: mappings-in-force; device too large: refused-because)
+  pub held-stores : OfEveryWrite (λ w row u offset width value r left. stores row u offset width value .runs ≡ true →
+      held (u .config) (stores row u offset width value .registers) ≡ true → OnlyStores row u (stores row u offset width value) r left)
   -- WHERE THE PROFILES AGREE BOTH ANSWER ALIKE (Profiles): over whole runs of accesses on which they agree
   pub profiles-alike : {k : ItsConfig} {u v : ItsState} → LedAlike k u v → AnswerAlike u v
   -- and both accept the same configurations
   pub verdicts-alike : (k : ItsConfig) (c c′ : Configured) → Configures (withProfile k 0) c → Configures (withProfile k 1) c′ → c′ .verdict ≡ c .verdict
+  -- by its_configure and its_write too
+  pub calls-begin : (limit budget frame : ℕ) (ps : List ℕ) (u v : ItsState) (r r′ : ℕ) (told told′ : List ℕ) →
+      CallConfigures (limit ∷ budget ∷ frame ∷ 0 ∷ []) ps u r told → CallConfigures (limit ∷ budget ∷ frame ∷ 1 ∷ []) ps v r′ told′ →
+      (r′ ≡ r) × (told′ ≡ told) × (r ≡ 0 → LedAlike (configGiven (limit ∷ budget ∷ frame ∷ []) ps) u v)
+  pub calls-go-on : {k : ItsConfig} {u v : ItsState} → LedAlike k u v → (w : Window) (row : List ℕ) (offset width value : ℕ) →
+      CommonWrite w u (stores (map actionIn row) u offset width value) → (left left′ : ItsState) (after after′ : List ℕ) (r r′ : ℕ) (told told′ : List ℕ) →
+      CallWrites w row u offset width value left after r told → CallWrites w row v offset width value left′ after′ r′ told′ → LedAlike k left left′
+  -- and a whole trace has the same lines when its configurations are in strict (Traces)
+  pub traces-alike : (rs : List Record) → AllInBase rs → CommonAlong atStart rs → linesAfter atStart (map inStrict rs) ≡ linesAfter atStart rs
+  -- IT IS NOT EMPTY: 01's example is such a run, and in strict a run of demand 3, after which device 5 is mapped again (ExampleStrict)
+  pub example-strict : ExampleStrict
   -- EACH ACTION HANDED OVER IS WHAT THE HISTORY GIVES (Actions): of every write, refused or not, to a unit to which calls led
   pub actions-given : {k : ItsConfig} {u : ItsState} {h : List Command} → Led k u h → OfWritesTo u (λ w row offset width value r left. ActionsGiven (profileOf k) h w u r left)
   -- and of every call of its_write
@@ -125,6 +148,8 @@ pub record Theorems : Type 0 where
   pub unsound-answers-1 : (u : ItsState) → soundUnit u ≡ false → AnswersOne u
   -- a sound unit never answers 1
   pub sound-never-1 : (u : ItsState) → soundUnit u ≡ true → NeverOne u
+  -- 1 to everything: numbers of a host that have another layout
+  pub another-layout : (s : List ℕ) → laidOut s ≡ false → AnswersOne (unitIn s)
   -- 1 to everything too: the unit that stands where none was configured
   pub no-unit-answers-1 : (u : ItsState) → NoUnit u → AnswersOne u
   -- and the one that a refused configuration gives; its refusal is 1

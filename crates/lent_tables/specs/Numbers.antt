@@ -148,7 +148,7 @@ rows (suc n) f = f zero ∷ rows n (λ i. f (suc i))
 abbrev pub laidOut : List ℕ → Bool
 laidOut s = eqb (word s LAYOUT) LAYOUT-NUMBER
 
--- a number of the configuration: under another layout there is none
+-- Follows the code: what the helper `setting` reads of the configuration, one number of it
 abbrev pub settingAt : List ℕ → ℕ → ℕ
 settingAt s at = if laidOut s then word s at % 2 ^ 32 else 0
 

@@ -69,6 +69,10 @@ pub off-may : (k : ItsConfig) (r : ItsRegisters) → r .enabled ≡ false → ma
 unfolding mayRun
 off-may k r off = rw off
 
+pub held-may : (k : ItsConfig) (r : ItsRegisters) → held k r ≡ true → mayRun k r ≡ false
+unfolding mayRun
+held-may k r h = rw h (off-and (r .enabled))
+
 pub valid-may : (k : ItsConfig) (r : ItsRegisters) → r .enabled ≡ true → CBASER·Valid of r .cbaser ≡ 1 → mayRun k r ≡ true
 unfolding mayRun held
 valid-may k r on valid = rw (on, valid, off-and (isStrict (k .profile)))

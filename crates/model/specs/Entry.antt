@@ -72,7 +72,7 @@ rowAfter actions row = actions ++ drop (length actions) row
 abbrev pub afterRun : Ran → List ItsAction → Outcome
 afterRun r row = record { written = record { unit = r .unit; answer = answerOf r }; row = rowAfter (r .actions) row }
 
--- then an enabled unit runs its queue
+-- then the queue runs, where it may
 unfoldable pub running : Window → ItsState → List ItsAction → Outcome
 running w u row = afterRun (runQueue w u) row
 

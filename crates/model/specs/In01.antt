@@ -1,5 +1,5 @@
--- DOCUMENT 01'S UNIT, which knows no profile: what a configuration, a read, a translation and a write are there. `guarantees: Profiles` says that a base
--- unit is this one. Checks and effects of a command are in Step (checkIn01, effectIn01), the sizes in Config (sizesIn01).
+-- DOCUMENT 01'S UNIT, with A1's numbers and A2's actions, and without a profile: what a configuration, a read, a translation and a write are there.
+-- `guarantees: Profiles` says that a base unit is this one. Checks and effects of a command are in Step (checkIn01, effectIn01), the sizes in Config (sizesIn01).
 -- Assumes nothing.
 use Prim.Native.Nat.{ℕ, zero, suc}
 use mathlib.Core.Bool.{Bool, _&&_}
@@ -82,7 +82,7 @@ abbrev pub runIn01 : Window → ℕ → ItsState → Ran
 runIn01 w zero u = ended u none
 runIn01 w (suc n) u = goOnIn01 u (turnIn01 w u) (runIn01 w n)
 
--- an enabled unit runs its queue
+-- an enabled unit runs its queue: 5 is tested once, then each command in turn
 unfoldable pub runQueueIn01 : Window → ItsState → Ran
 runQueueIn01 w u =
     if u .registers .enabled

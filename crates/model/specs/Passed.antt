@@ -32,7 +32,7 @@ ifKnown (Unknown opcode) = none
 unfoldable pub commandOf : Window → ItsRegisters → ℕ → Option Command
 commandOf w r n = whenFound (commandAt w (commandAddress r (ringOffset r n))) (λ ws. ifKnown (decode ws))
 
--- the command on which CREADR stands
+-- the command on which CREADR stands. (In a sound ring it is the first of those from CREADR on; here CREADR is taken as it is, as the queue takes it.)
 unfoldable pub commandHere : Window → ItsRegisters → Option Command
 commandHere w r = whenFound (commandAt w (commandAddress r (r .creadr))) (λ ws. ifKnown (decode ws))
 

@@ -21,12 +21,9 @@ isProfile n = leb n 1
 abbrev pub isStrict : ℕ → Bool
 isStrict n = eqb n 1
 
--- the profile of a configuration. (One that is neither is never accepted, and a unit that has it by hand answers 1.)
-abbrev pub profileNumbered : ℕ → Profile
-profileNumbered n = if isStrict n then strict else base
-
+-- the profile of a configuration. (A number that is neither is never accepted, and a unit that has it by hand answers 1.)
 abbrev pub profileOf : ItsConfig → Profile
-profileOf k = profileNumbered (k .profile)
+profileOf k = if isStrict (k .profile) then strict else base
 
 -- "In force" gains a valid MAPD of the device as an ending: whether a MAPD, valid or not, ends the pairs of its device
 abbrev pub mapdEnds : Profile → Bool → Bool

@@ -140,7 +140,7 @@ held k r = isStrict (k .profile) && eqb (CBASER·Valid of r .cbaser) 0
 unfoldable pub mayRun : ItsConfig → ItsRegisters → Bool
 mayRun k r = r .enabled && not (held k r)
 
--- an enabled unit runs its queue: 5 is tested once, then each command in turn
+-- a queue that may run is run: 5 is tested once, then each command in turn
 unfoldable pub runQueue : Window → ItsState → Ran
 runQueue w u =
     if mayRun (u .config) (u .registers)

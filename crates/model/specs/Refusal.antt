@@ -85,7 +85,7 @@ abbrev pub reasons : List Refusal
 reasons =
     OpcodeUnknown ∷ LpiOutOfRange ∷ DeviceUnmapped ∷ EventBeyondBits ∷ CollectionUnmapped ∷ PairUnmapped ∷ ProcessorUnlisted ∷ DeviceTooLarge ∷ []
 
--- 01's own table, in which a refused command has one number for all its reasons
+-- 01's own table, in which a refused command has one number for all its reasons (the last of the 7s is 02's: "device too large is 7")
 abbrev pub numberIn01 : Refusal → ℕ
 numberIn01 Unsound = 1
 numberIn01 RowTooShort = 10

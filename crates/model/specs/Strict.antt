@@ -43,9 +43,9 @@ givenStrict xs n = translateNumbers (translate (strictAfter xs) (device n) nine)
 abbrev pub bothMet : List Command
 bothMet = Mapti (device 6) nine (record { 0 = 8201 }) two ∷ Mapd (device 6) 4 true ∷ exampleMet
 
--- whether a corner gives this number
+-- a line of the table: this number is expected, and n comes
 abbrev pub gives : ℕ → ℕ → Corner
-gives expected n = corner expected (eqb n expected)
+gives expected n = corner 0 (eqb n expected)
 
 -- the table
 unfoldable pub ofStrict : List Corner

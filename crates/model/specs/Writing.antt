@@ -35,7 +35,7 @@ storing r = record { registers = r; rebased = false; runs = false; answer = Take
 abbrev pub rebasing : ItsRegisters → RegisterWrite
 rebasing r = record { registers = r; rebased = true; runs = false; answer = Taken 0 0 }
 
--- stored; then an enabled unit runs its queue
+-- stored; then the queue runs, where it may (Queue.mayRun)
 abbrev pub going : ItsRegisters → RegisterWrite
 going r = record { registers = r; rebased = false; runs = true; answer = Taken 0 0 }
 
@@ -45,7 +45,7 @@ going r = record { registers = r; rebased = false; runs = true; answer = Taken 0
 abbrev pub enables : ℕ → Bool
 enables value = eqb (CTLR·Enabled of value) 1
 
--- then an enabled unit runs its queue
+-- then the queue runs, where it may
 unfoldable pub toCtlr : ItsRegisters → ℕ → RegisterWrite
 toCtlr r value = going (withEnabled r (enables value))
 
@@ -53,7 +53,7 @@ toCtlr r value = going (withEnabled r (enables value))
 abbrev pub withCbaser : ItsRegisters → ℕ → ItsRegisters
 withCbaser r value = withRing r value 0 0
 
--- ignored (answer 0) while enabled; merged base zero is refused. Bit 63 is not looked at
+-- ignored (answer 0) while enabled; merged base zero is refused. Bit 63 is not looked at here (Queue.held looks at it, in strict)
 unfoldable pub toCbaser : ItsRegisters → ℕ → RegisterWrite
 toCbaser r value =
     if r .enabled
@@ -68,7 +68,7 @@ writerTaken r value = if eqb (r .cbaser) 0 then value else bits 19 0 of value
 unfoldable pub writerAccepted : ItsRegisters → ℕ → Bool
 writerAccepted r writer = if eqb (r .cbaser) 0 then eqb writer 0 else isQueueOffset (r .cbaser) writer
 
--- then an enabled unit runs its queue
+-- then the queue runs, where it may
 unfoldable pub toCwriter : ItsRegisters → ℕ → RegisterWrite
 toCwriter r value =
     writerAccepted r (writerTaken r value) or refusing r (writerTaken r value) WriterRefused then

@@ -11,8 +11,8 @@ pub enum Profile {
     /// above 65535 is refused with 27, and the queue is held while bit 63 of
     /// CBASER is 0.
     Strict,
-    /// A number that this crate does not name. A unit that does not know it
-    /// refuses the configuration with 1.
+    /// A number that this crate does not name, as [`Profile::of`] makes it. A
+    /// unit that does not know it refuses the configuration with 1.
     Unnamed(u32),
 }
 

@@ -7,12 +7,13 @@ use oracle::answers::answers;
 use oracle::digests::{seeds, strict_seeds};
 use oracle::exhaustive::{self, Named};
 use oracle::lines::{count, first};
-use oracle::record::{BASE, Record, Records};
-use oracle::recorded::by_hand;
+use oracle::record::{BASE, Record, Records, STRICT};
+use oracle::recorded::{by_hand, list};
 use oracle::strict::{Met, lines};
 use oracle::text::assemble;
 
 const TEXTS: &str = concat!(env!("CARGO_MANIFEST_DIR"), "/traces");
+const GUESTS: &str = concat!(env!("CARGO_MANIFEST_DIR"), "/../crates/replay/data/linux");
 
 fn written_by_hand() -> Vec<(Named, Vec<u8>)> {
     by_hand(Path::new(TEXTS)).expect("well-formed texts")
@@ -26,15 +27,32 @@ fn named(name: &str) -> (Vec<u8>, Vec<u8>) {
 
 /// The same records with base units.
 fn in_base(trace: &[u8]) -> Vec<u8> {
+    with_units_of(BASE, trace)
+}
+
+fn with_units_of(profile: u8, trace: &[u8]) -> Vec<u8> {
     let mut other = Vec::new();
     for record in Records::of(trace) {
         let mut record = record.expect("a whole record");
         if let Record::Cf(configuration) = &mut record {
-            configuration.profile = BASE;
+            configuration.profile = profile;
         }
         record.encode(&mut other);
     }
     other
+}
+
+/// The lines of a trace of base units that are others with strict ones: what they
+/// are in base, and in strict.
+fn others_in_strict(trace: &[u8]) -> Vec<(String, String)> {
+    let base = String::from_utf8(answers(trace).told).expect("lines are text");
+    let strict = lines(&with_units_of(STRICT, trace)).lines;
+    let strict = String::from_utf8(strict).expect("lines are text");
+    assert_eq!(base.lines().count(), strict.lines().count());
+    let both = base.lines().zip(strict.lines());
+    both.filter(|(base, strict)| base != strict)
+        .map(|(base, strict)| (base.into(), strict.into()))
+        .collect()
 }
 
 /// Without the three rules of the strict profile, what answers for strict units is
@@ -100,6 +118,51 @@ fn the_strict_stories_have_the_steps_of_the_base_ones() {
         let (strict, _) = named(&format!("{name}-strict"));
         assert!(assemble(&text) == Ok(in_base(&strict)), "{name}");
     }
+}
+
+/// docs/DIFFERENCES.md has these lines in its entry S16, and says that no other of
+/// its traces gets other lines from a strict unit.
+#[test]
+fn four_differences_have_other_lines_in_strict() {
+    let mut traces = list(Path::new(TEXTS)).expect("well-formed texts");
+    traces.retain(|(name, _)| name.starts_with("difference-"));
+    assert!(traces.len() > 50, "{}", traces.len());
+    let mut others = Vec::new();
+    for (name, trace) in traces {
+        for (base, strict) in others_in_strict(&trace) {
+            others.push(format!("{name}: {base}, {strict}"));
+        }
+    }
+    assert_eq!(
+        others,
+        [
+            "difference-R01-mapd-again: TR 0 8200 1, TR 8 0 0",
+            "difference-R02-smaller-capacity: TR 0 8200 1, TR 8 0 0",
+            "difference-R17-device-number: WR 0 0 0 3 0, WR 27 8 0 0 0",
+            "difference-R17-device-number: TR 0 8200 1, TR 8 0 0",
+            "difference-R27-cbaser-valid: WR 0 0 0 1 0, WR 0 0 0 0 0",
+            "difference-R27-cbaser-valid: RD 0 32, RD 0 0",
+        ]
+    );
+}
+
+/// It also says that real guests get the same lines in both profiles. One of them
+/// maps devices again.
+#[test]
+fn real_guests_have_the_same_lines_in_strict() {
+    let mut met = Met::default();
+    let mut guests = 0;
+    for entry in std::fs::read_dir(GUESTS).expect("the folder of real guests") {
+        let path = entry.expect("a file").path();
+        if path.extension().is_some_and(|ending| ending == "trace") {
+            let trace = std::fs::read(&path).expect("a trace");
+            assert_eq!(others_in_strict(&trace), [], "{}", path.display());
+            met.add(&lines(&with_units_of(STRICT, &trace)).met);
+            guests += 1;
+        }
+    }
+    assert_eq!(guests, 4, "io61, hotplug612, suspend61, kexec61");
+    assert_eq!(met.mapped_again, 2, "by the second kernel of kexec61");
 }
 
 /// The guests of strict units know their rules: most of what they post is carried

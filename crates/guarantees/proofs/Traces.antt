@@ -1,0 +1,113 @@
+-- Whole traces, record by record: those of base are 01's, and where the profiles agree both have the same lines.
+-- Assumes nothing.
+use Prim.Native.Nat.{ℕ}
+use mathlib.Core.Path.{_≡_, refl, sym, ap, ap₂, _∙_}
+use mathlib.Core.Bool.{true, false}
+use mathlib.Core.List.{List, [], _∷_, _++_, map}
+use mathlib.Core.Logic.{_⊎_, inl, inr}
+use Rattle.model.specs.declared.ItsConfig.{ItsConfig}
+use Rattle.model.specs.declared.ItsState.{ItsState}
+use Rattle.model.specs.declared.Refusal.the-variants.{Unsound}
+use Rattle.model.specs.declared.Verdict.{Verdict}
+use Rattle.model.specs.declared.Verdict.the-variants.{Accepted, Refused}
+use Rattle.model.specs.With.{withProfile}
+use Rattle.model.specs.Refusal.{verdictNumber}
+use Rattle.model.specs.Config.{soundConfig, noUnit}
+use Rattle.model.specs.Queue.{Window}
+use Rattle.model.specs.Entry.{configure, stores, write}
+use Rattle.model.specs.Common.{inProfile}
+use Rattle.model.specs.Trace.{Record, CF, GM, RD, WR, TR, Running, atStart, line, writeLines, lentRow, writeOf, next, linesOf}
+use Rattle.model.proofs.Cases.{cases, never}
+use Rattle.model.proofs.Profiles.{base-configures, base-writes}
+use Rattle.model.proofs.Alike.{same-writes, same-verdict, same-fresh}
+use Rattle.guarantees.specs.Profiles.{standing, InBase, CommonRecord}
+use Rattle.guarantees.specs.Traces.{linesAfter, nextIn01, linesAfterIn01, AllInBase, CommonAlong, inStrict}
+use Rattle.guarantees.proofs.Follows.{commands-follow}
+use Rattle.guarantees.proofs.Profiles.{lines-as-01, lines-alike}
+
+-- In base.
+
+-- a configuration of base, accepted or refused, leaves a base unit
+configured-base : (k : ItsConfig) → k .profile ≡ 0 → configure k .unit .config .profile ≡ 0
+unfolding configure
+configured-base k b = cases (soundConfig k) (λ y. rw y b) (λ n. rw n)
+
+-- and so does a record
+stays-base : (s : Running) → s .unit .config .profile ≡ 0 → (r : Record) → InBase r → next s r .unit .config .profile ≡ 0
+unfolding writeOf
+stays-base s b (CF k) c = configured-base k c
+stays-base s b (GM w) c = b
+stays-base s b (RD offset width) c = b
+stays-base s b (WR offset width value) c =
+    ap (λ k. k .profile) (commands-follow (s .window) lentRow (s .unit) offset width value _ _ (record { answer = refl; row-left = refl; numbers = refl }) .config) ∙ b
+stays-base s b (TR d e) c = b
+
+next-as-01 : (s : Running) → s .unit .config .profile ≡ 0 → (r : Record) → InBase r → next s r ≡ nextIn01 s r
+unfolding writeOf
+next-as-01 s b (CF k) c = rw (base-configures k c)
+next-as-01 s b (GM w) c = refl
+next-as-01 s b (RD offset width) c = refl
+next-as-01 s b (WR offset width value) c = rw (base-writes (s .unit) b (s .window) lentRow offset width value)
+next-as-01 s b (TR d e) c = refl
+
+pub base-traces : (s : Running) → s .unit .config .profile ≡ 0 → (rs : List Record) → AllInBase rs → linesAfter s rs ≡ linesAfterIn01 s rs
+base-traces s b [] c = refl
+base-traces s b (r ∷ rs) c =
+    ap₂ _++_ (lines-as-01 (s .unit) b (s .window) r (c .0))
+    (base-traces (next s r) (stays-base s b r (c .0)) rs (c .1) ∙ ap (λ t. linesAfterIn01 t rs) (next-as-01 s b r (c .0)))
+
+-- In both: the strict run t beside the base run s has the same unit, or that unit in strict.
+abbrev Beside : Running → Running → Type 0
+Beside s t = (t .window ≡ s .window) × ((t .unit ≡ s .unit) ⊎ ((s .unit .config .profile ≡ 0) × (t .unit ≡ inProfile 1 (s .unit))))
+
+is-base : (k : ItsConfig) → k .profile ≡ 0 → k ≡ withProfile k 0
+is-base k b = ap (withProfile k) b
+
+-- a refused configuration gives no unit
+none-refused : (k : ItsConfig) (why : _) → configure k .verdict ≡ Refused why → configure k .unit ≡ noUnit
+unfolding configure
+none-refused k why a = cases (soundConfig k) (λ y. let z : Accepted ≡ Refused why = rw y at a in never true refl (cc)) (λ n. rw n)
+
+-- a configuration: both are accepted, and the units are alike, or both are refused, and there is no unit
+both-configured : (k : ItsConfig) → k .profile ≡ 0 → (w w′ : Window) → w′ ≡ w →
+    Beside (record { unit = configure k .unit; window = w }) (record { unit = configure (withProfile k 1) .unit; window = w′ })
+both-configured k b w w′ e = (e, by-verdict (configure (withProfile k 0) .verdict) refl)
+  where
+    by-verdict : (v : Verdict) → configure (withProfile k 0) .verdict ≡ v →
+        (configure (withProfile k 1) .unit ≡ configure k .unit) ⊎ ((configure k .unit .config .profile ≡ 0) × (configure (withProfile k 1) .unit ≡ inProfile 1 (configure k .unit)))
+    by-verdict Accepted a = inr (configured-base k b, same-fresh k a ∙ ap (λ z. inProfile 1 (configure z .unit)) (sym (is-base k b)))
+    by-verdict (Refused why) a =
+        inl (none-refused (withProfile k 1) why (same-verdict k ∙ a) ∙ sym (none-refused k why (ap (λ z. configure z .verdict) (is-base k b) ∙ a)))
+
+same-next : (s : Running) (v : ItsState) → v ≡ s .unit → (r : Record) → InBase r → (t : Window) → t ≡ s .window →
+    (linesOf (record { unit = v; window = t }) (inStrict r) ≡ linesOf s r) × Beside (next s r) (next (record { unit = v; window = t }) (inStrict r))
+same-next s v e (CF k) c t x = (ap (λ z. line "CF" (verdictNumber z ∷ []) ∷ []) (same-verdict k ∙ ap (λ z. configure z .verdict) (sym (is-base k c))), both-configured k c (s .window) t x)
+same-next s v e (GM w) c t x = (refl, (refl, inl e))
+same-next s v e (RD offset width) c t x = (rw e, (x, inl e))
+same-next s v e (WR offset width value) c t x = (rw (e, x), (x, inl (rw (e, x))))
+same-next s v e (TR d y) c t x = (rw e, (x, inl e))
+
+strict-next : (s : Running) → s .unit .config .profile ≡ 0 → (v : ItsState) → v ≡ inProfile 1 (s .unit) → (r : Record) → InBase r → CommonRecord s r → (t : Window) → t ≡ s .window →
+    (linesOf (record { unit = v; window = t }) (inStrict r) ≡ linesOf s r) × Beside (next s r) (next (record { unit = v; window = t }) (inStrict r))
+unfolding writeOf
+strict-next s b v e (CF k) c d t x = (ap (λ z. line "CF" (verdictNumber z ∷ []) ∷ []) (same-verdict k ∙ ap (λ z. configure z .verdict) (sym (is-base k c))), both-configured k c (s .window) t x)
+strict-next s b v e (GM w) c d t x = (refl, (refl, inr (b, e)))
+strict-next s b v e (RD offset width) c d t x = (rw e (lines-alike (s .unit) b (s .window) (RD offset width) d), (x, inr (b, e)))
+strict-next s b v e (WR offset width value) c d t x = (
+  rw (e, x) (lines-alike (s .unit) b (s .window) (WR offset width value) d),
+  (x, inr (stays-base s b (WR offset width value) c, rw (e, x) (ap (λ o. o .written .unit) (same-writes (s .unit) b (s .window) lentRow offset width value d)))),
+)
+strict-next s b v e (TR y z) c d t x = (rw e (lines-alike (s .unit) b (s .window) (TR y z) d), (x, inr (b, e)))
+
+traces-beside : (s t : Running) → Beside s t → (rs : List Record) → AllInBase rs → CommonAlong s rs → linesAfter t (map inStrict rs) ≡ linesAfter s rs
+traces-beside s t b [] c d = refl
+traces-beside s t (w, inl e) (r ∷ rs) c d =
+    let (lines, beside) = same-next s (t .unit) e r (c .0) (t .window) w in
+    ap₂ _++_ lines (traces-beside (next s r) (next t (inStrict r)) beside rs (c .1) (d .1))
+traces-beside s t (w, inr (b, e)) (r ∷ rs) c d =
+    let (lines, beside) = strict-next s b (t .unit) e r (c .0) (d .0) (t .window) w in
+    ap₂ _++_ lines (traces-beside (next s r) (next t (inStrict r)) beside rs (c .1) (d .1))
+
+-- from the start of a trace on
+pub traces-alike : (rs : List Record) → AllInBase rs → CommonAlong atStart rs → linesAfter atStart (map inStrict rs) ≡ linesAfter atStart rs
+traces-alike rs c d = traces-beside atStart atStart (refl, inl refl) rs c d
