@@ -3,126 +3,43 @@
 use Prim.Native.Nat.{ℕ, zero, suc, _≤_, _<_}
 use native.Mathlib.Omega.{arith}
 use mathlib.Core.Path.{_≡_, refl, sym, ap, ap₂, _∙_}
-use mathlib.Core.Bool.{true, false}
+use mathlib.Core.Bool.{true}
 use mathlib.Core.List.{List, []}
-use mathlib.Core.Option.{Option, none, some}
+use mathlib.Core.Option.{none, some}
 use lib.Dec.{leb, eqb}
 use borrow.Author.Tests.{le-leb, eqb-true, eqb-false, leb-true}
 use Rattle.model.specs.declared.ItsDeviceId.{ItsDeviceId}
 use Rattle.model.specs.declared.EventId.{EventId}
-use Rattle.model.specs.declared.CollectionId.{CollectionId}
-use Rattle.model.specs.declared.Translation.{Translation}
 use Rattle.model.specs.declared.ItsConfig.{ItsConfig}
 use Rattle.model.specs.declared.ItsRegisters.{ItsRegisters}
 use Rattle.model.specs.declared.ItsState.{ItsState}
 use Rattle.model.specs.declared.ItsAction.{ItsAction}
-use Rattle.model.specs.declared.Register.{Register}
-use Rattle.model.specs.declared.Register.the-variants.{Ctlr, Iidr, Typer, Cbaser, Cwriter, Creadr, Baser, Reserved}
 use Rattle.model.specs.declared.RegisterWrite.{RegisterWrite}
 use Rattle.model.specs.declared.Command.{Command}
-use Rattle.model.specs.declared.Command.the-variants.{Mapd, Mapc, Mapti, Mapi, Movi, Int, Clear, Discard, Inv, Invall, Sync}
-use Rattle.model.specs.declared.Decoded.{Decoded}
-use Rattle.model.specs.declared.Decoded.the-variants.{Known, Unknown}
-use Rattle.model.specs.declared.Refusal.the-variants.{Unsound, NotInWindow}
+use Rattle.model.specs.declared.Refusal.the-variants.{Unsound}
 use Rattle.model.specs.declared.Verdict.{Verdict}
 use Rattle.model.specs.declared.Verdict.the-variants.{Accepted, Refused}
-use Rattle.model.specs.Choose.{if_then_else_, ifFound}
+use Rattle.model.specs.Choose.{if_then_else_}
 use Rattle.model.specs.Arm.{_of_, CBASER·Valid}
 use Rattle.model.specs.With.{withRegisters, withProfile}
 use Rattle.model.specs.Profile.{strict}
-use Rattle.model.specs.Config.{listed, sizesIn01, soundConfig}
-use Rattle.model.specs.Decode.{opcodeOf, decode}
-use Rattle.model.specs.Step.{translationOf, deliveryIn, lpiInRange, checkMapping, checkIn01, storeDevice, storeCollection, storeTranslation, dropDevice, dropCollection, dropPair, movePair, effectIn01, actionsOn, actionsOf}
-use Rattle.model.specs.Queue.{Window, commandAt, waiting, commandAddress, Turn, passes, stays, judged, turn, carryOut, Ran, ended, andThen, goOn, run, held, mayRun, runQueue}
+use Rattle.model.specs.Config.{sizesIn01, soundConfig}
+use Rattle.model.specs.Step.{deliveryIn, actionsOf}
+use Rattle.model.specs.Queue.{Window, waiting, Turn, passes, stays, turn, carryOut, ended, andThen, goOn, run, held, mayRun, runQueue}
 use Rattle.model.specs.Passed.{commandHere}
-use Rattle.model.specs.Register.{registerAt, readOf, valueWritten}
+use Rattle.model.specs.Register.{registerAt}
 use Rattle.model.specs.Access.{checkAccess, checkRead, checkWrite}
 use Rattle.model.specs.Writing.{registerWrite}
 use Rattle.model.specs.Entry.{Outcome, afterRun, readFrom, read, translate, running, concluded, stores, configure, write}
-use Rattle.model.specs.In01.{turnOnIn01, turnIn01, carryOutIn01}
 use Rattle.model.specs.Common.{inProfile, Common, CommonRun, CommonWrite}
 use Rattle.model.proofs.Cases.{cases, never}
 use Rattle.model.proofs.Answers.{queue-runs, queue-over, queue-off}
+use Rattle.model.proofs.AnyProfile.{same-actions, same-turn, same-carried, ranIn, any-sizes, any-read, any-value}
 use Rattle.model.proofs.Profiles.{Plain, plain-common, turn-in-01, carried-in-01, base-is, sizes-only, off-may, valid-may}
 
--- 01's unit does the same with any number as its profile
-module _ (m : ℕ) (u : ItsState) where
-  same-check : (x : Command) → checkIn01 (inProfile m u) x ≡ checkIn01 u x
-  unfolding checkMapping lpiInRange listed deliveryIn
-  same-check (Mapd d bits true) = refl
-  same-check (Mapd d bits false) = refl
-  same-check (Mapc c p true) = refl
-  same-check (Mapc c p false) = refl
-  same-check (Mapti d e l c) = refl
-  same-check (Mapi d e c) = refl
-  same-check (Movi d e c) = refl
-  same-check (Int d e) = refl
-  same-check (Clear d e) = refl
-  same-check (Discard d e) = refl
-  same-check (Inv d e) = refl
-  same-check (Invall c) = refl
-  same-check Sync = refl
-
-  same-moved : (d : ItsDeviceId) (e : EventId) (c : CollectionId) (o : Option Translation) →
-      ifFound o (λ r. storeTranslation d e (r .lpi) c (inProfile m u)) (inProfile m u) ≡ inProfile m (ifFound o (λ r. storeTranslation d e (r .lpi) c u) u)
-  unfolding storeTranslation
-  same-moved d e c none = refl
-  same-moved d e c (some r) = refl
-
-  same-effect : (x : Command) → effectIn01 (inProfile m u) x ≡ inProfile m (effectIn01 u x)
-  unfolding storeDevice storeCollection storeTranslation dropDevice dropCollection dropPair movePair
-  same-effect (Mapd d bits true) = refl
-  same-effect (Mapd d bits false) = refl
-  same-effect (Mapc c p true) = refl
-  same-effect (Mapc c p false) = refl
-  same-effect (Mapti d e l c) = refl
-  same-effect (Mapi d e c) = refl
-  same-effect (Movi d e c) = same-moved d e c (translationOf u d e)
-  same-effect (Int d e) = refl
-  same-effect (Clear d e) = refl
-  same-effect (Discard d e) = refl
-  same-effect (Inv d e) = refl
-  same-effect (Invall c) = refl
-  same-effect Sync = refl
-
-  same-actions : (x : Command) → actionsOf (inProfile m u) x ≡ actionsOf u x
-  unfolding actionsOn deliveryIn
-  same-actions (Mapd d bits valid) = refl
-  same-actions (Mapc c p valid) = refl
-  same-actions (Mapti d e l c) = refl
-  same-actions (Mapi d e c) = refl
-  same-actions (Movi d e c) = refl
-  same-actions (Int d e) = refl
-  same-actions (Clear d e) = refl
-  same-actions (Discard d e) = refl
-  same-actions (Inv d e) = refl
-  same-actions (Invall c) = refl
-  same-actions Sync = refl
-
-  same-turn : (w : Window) → turnIn01 w (inProfile m u) ≡ turnIn01 w u
-  unfolding turnIn01
-  same-turn w = by-words (commandAt w (commandAddress (u .registers) (u .registers .creadr)))
-    where
-      by-decoded : (k : Decoded) (opcode : ℕ) → turnOnIn01 (inProfile m u) opcode k ≡ turnOnIn01 u opcode k
-      by-decoded (Known x) opcode = ap (λ v. judged v x opcode) (same-check x)
-      by-decoded (Unknown n) opcode = refl
-
-      by-words : (o : Option (List ℕ)) →
-          ifFound o (λ ws. turnOnIn01 (inProfile m u) (opcodeOf ws) (decode ws)) (stays NotInWindow 0) ≡ ifFound o (λ ws. turnOnIn01 u (opcodeOf ws) (decode ws)) (stays NotInWindow 0)
-      by-words none = refl
-      by-words (some ws) = by-decoded (decode ws) (opcodeOf ws)
-
-  same-carried : (x : Command) → carryOutIn01 (inProfile m u) x ≡ inProfile m (carryOutIn01 u x)
-  unfolding carryOutIn01
-  same-carried x = rw (same-effect x)
-
-  -- and an agreed command is one for both
-  same-common : (x : Command) → Common u x → Common (inProfile m u) x
-  same-common x c = record { small = c .small; not-again = c .not-again }
-
--- what a run comes to, its unit with another profile
-abbrev ranIn : ℕ → Ran → Ran
-ranIn m r = record { unit = inProfile m (r .unit); done = r .done; actions = r .actions; stopped = r .stopped }
+-- a command on which the profiles agree is one for both
+same-common : (m : ℕ) (u : ItsState) (x : Command) → Common u x → Common (inProfile m u) x
+same-common m u x c = record { small = c .small; not-again = c .not-again }
 
 module _ (m : ℕ) (w : Window) where
   -- one step: both units meet the same command, of which 01 says all
@@ -154,11 +71,6 @@ module _ (m : ℕ) (w : Window) where
   common-run zero u c = refl
   common-run (suc n) u c = common-step n u (c 0 (omega arith)) (λ x e. common-run n (carryOut u x) (later n u c x e)) (turn w u) refl
 
--- 01's sizes speak of no profile
-any-sizes : (k : ItsConfig) (m : ℕ) → sizesIn01 (withProfile k m) ≡ sizesIn01 k
-unfolding sizesIn01
-any-sizes k m = refl
-
 by-size : (n : ℕ) → (n ≡ 0 → ⊥) → 0 < n
 by-size zero h = absurd (h refl)
 by-size (suc n) h = omega arith
@@ -171,29 +83,9 @@ module _ (u : ItsState) (b : u .config .profile ≡ 0) where
   same-sizes : soundConfig (v .config) ≡ soundConfig (u .config)
   same-sizes = sizes-only (v .config) refl ∙ (any-sizes (u .config) 1 ∙ sym (sizes-only (u .config) (base-is (u .config) b)))
 
-  same-read : (offset width : ℕ) (n : Register) → readOf (v .config) (u .registers) offset width n ≡ readOf (u .config) (u .registers) offset width n
-  same-read offset width Ctlr = refl
-  same-read offset width Iidr = refl
-  same-read offset width Typer = refl
-  same-read offset width Cbaser = refl
-  same-read offset width Cwriter = refl
-  same-read offset width Creadr = refl
-  same-read offset width (Baser n) = refl
-  same-read offset width Reserved = refl
-
-  same-value : (offset width value : ℕ) (n : Register) → valueWritten (v .config) (u .registers) offset width value n ≡ valueWritten (u .config) (u .registers) offset width value n
-  same-value offset width value Ctlr = refl
-  same-value offset width value Iidr = refl
-  same-value offset width value Typer = refl
-  same-value offset width value Cbaser = refl
-  same-value offset width value Cwriter = refl
-  same-value offset width value Creadr = refl
-  same-value offset width value (Baser n) = refl
-  same-value offset width value Reserved = refl
-
   pub same-reads : (offset width : ℕ) → read v offset width ≡ read u offset width
   unfolding readFrom checkRead checkAccess
-  same-reads offset width = rw (same-sizes, same-read offset width (registerAt offset))
+  same-reads offset width = rw (same-sizes, any-read 1 u offset width (registerAt offset))
 
   pub same-translates : (d : ItsDeviceId) (e : EventId) → translate v d e ≡ translate u d e
   unfolding translate deliveryIn
@@ -201,7 +93,7 @@ module _ (u : ItsState) (b : u .config .profile ≡ 0) where
 
   pub same-stores : (row : List ItsAction) (offset width value : ℕ) → stores row v offset width value ≡ stores row u offset width value
   unfolding registerWrite checkWrite checkAccess
-  same-stores row offset width value = rw (same-sizes, same-value offset width value (registerAt offset))
+  same-stores row offset width value = rw (same-sizes, any-value 1 u offset width value (registerAt offset))
 
   -- the run
   module _ (w : Window) (r : ItsRegisters) where

@@ -16,6 +16,7 @@ pub mod Mapped
 pub mod Paragraph
 pub mod Promised
 pub mod Profiles
+pub mod AnyProfile
 pub mod Alike
 pub mod ArmFacts
 pub mod Facts
