@@ -65,7 +65,7 @@ typedef struct {
  * for a refused its_configure; the offset of 7 is the refused one.
  */
 enum its_refusal {
-    ITS_UNSOUND = 1, /* The unit is not configured, or its numbers are not those of any unit. */
+    ITS_UNSOUND = 1, /* The settings are not allowed; or the unit is not configured, or its numbers are of another layout or of no unit. */
     ITS_INVALID_ACCESS = 2, /* No such access: its width, alignment, or place. */
     ITS_IDENTIFICATION = 3, /* An identification register, which the host answers itself. */
     ITS_BASE_ZERO = 4, /* CBASER with a queue at address 0. */

@@ -3,8 +3,8 @@
 #   tools/convert.sh OLD NEW          one trace
 #   tools/convert.sh --check COMMIT   the traces of a commit of the old format, each converted, against the present ones
 # The check wants every trace of crates/ and its lines (but for the offset of a line ??) to be the converted one. The exhaustive traces, which stand one
-# after the other in several files, are held against each other as one run, and may have more at the end. The traces of seeds that are others now, since
-# their family draws other numbers or damages longer traces, are named.
+# after the other in several files, are held against each other as one run, and may have more at the end. A seed whose family draws otherwise now, or
+# damages longer traces, gives another trace: the converted one of it is kept as converted-seed-N.
 set -eu
 cd "$(dirname "$0")/.."
 convert=$PWD/oracle/target/assemble/release/convert
@@ -42,7 +42,7 @@ for path in $(find crates \( -name '*.trace' -o -name '*.expect' -o -name stdin 
     *) cat "$path" >>"$work/new/$(name "$path")" ;;
     esac
 done
-same=0 others='' failed=0
+same=0 kept=0 failed=0
 for file in "$work"/old/*; do
     present=$work/new/${file##*/}
     shown=$(echo "${file##*/}" | tr : /)
@@ -51,10 +51,12 @@ for file in "$work"/old/*; do
         # Only a run of exhaustive traces may have more.
         case $shown in *exhaustive-*) true ;; *) cmp -s "$file" "$present" ;; esac && same=$((same + 1)) && continue
     fi
-    case $shown in
-    */seed-*) others="$others ${shown##*/}" ;;
-    *) echo "convert: $shown is not the converted one" && failed=1 ;;
-    esac
+    former=$(echo "${file##*/}" | sed 's/:seed-/:converted-seed-/')
+    if cmp -s "$file" "$work/new/$former"; then
+        kept=$((kept + 1))
+    else
+        echo "convert: $shown is not the converted one" && failed=1
+    fi
 done
-echo "convert: $same files are those of $2, converted; others now:${others:- none}"
+echo "convert: $same files are those of $2, converted, and $kept more under the name converted-seed-N"
 exit $failed

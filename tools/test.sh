@@ -48,10 +48,10 @@ with open(sys.argv[1] + "/times", "a") as times:
 
 command -v rt >/dev/null 2>&1 || fail "rt, the command of the Rattle kit, is not on the PATH"
 part layout rt fmt --check || fail "a file is not in rt's layout: run 'rt fmt'"
-part towers tools/towers.sh || fail "a tower names the other, or the base a tower"
+part towers tools/towers.sh || fail "a tower names the other, or a crate below both a tower"
 part documents tools/documents.sh || fail "a document does not fit what it speaks of"
 part oracle tools/oracle.sh || fail "the published Rust does not answer as recorded"
-part definitions tools/definitions.sh || fail "the definitions do not answer as the Rust did"
+part definitions tools/definitions.sh || fail "the definitions do not answer as recorded"
 
 # rt ci removes target/ first: no verdict rests on an earlier run.
 { rt ci; echo $? >"$work/status"; } | phases || fail "what rt said was not kept"

@@ -1,5 +1,5 @@
 #!/bin/sh
-# The two towers stand apart: in crates.txt and in its files, a crate of the base names the base alone, and one of a tower the base and its own tower
+# The two towers stand apart: in crates.txt and in its files, a crate below both names only such crates, and one of a tower these and its own tower's
 # (and the kit's crates). So neither tower stands on the other by way of a third crate either. Theorems and programs may name both.
 set -eu
 cd "$(dirname "$0")/.."
@@ -7,13 +7,13 @@ exec python3 - <<'PY'
 import glob, re, sys
 
 places = {
-    "base": "model words registers decoding answers",
+    "below both": "model words registers decoding answers",
     "by value": "tables command window queue its text trace",
     "over numbers": "lent_tables lent_command lent_queue host",
     "about both": "arm_agreement guarantees mappings showing corners by_hand inforce itstrace replay",
 }
 place = {crate: name for name, crates in places.items() for crate in crates.split()}
-may = {"base": ["base"], "by value": ["base", "by value", "of the kit"], "over numbers": ["base", "over numbers", "of the kit"]}
+may = {"below both": ["below both"], "by value": ["below both", "by value", "of the kit"], "over numbers": ["below both", "over numbers", "of the kit"]}
 # How a file names a crate: `queue::name` in code, `Rattle.queue` in definitions and proofs.
 names = re.compile(r"(?<![\w:.·])([a-z_0-9]+)::|\buse ([a-z_0-9]+)(?:;| as )|Rattle·([a-z_0-9]+)")
 
@@ -35,5 +35,5 @@ for what in refused:
     print(f"towers: {what}")
 if refused:
     sys.exit(1)
-print(f"towers: {len(listed)} crates; in {files} files of the base and the towers no name of another tower")
+print(f"towers: {len(listed)} crates; in {files} files of the towers and below both no name of another tower")
 PY

@@ -91,7 +91,7 @@ static void a_visit(void) {
     check("DISCARD of no pair: refused with 25", write(CWRITER, 8, used) == ITS_PAIR_UNMAPPED && is(25, 0x0f, 192, 0, 0));
 }
 
-/* The numbers that a host keeps. Under another layout's number they are no unit, and no call changes them. */
+/* The numbers that a host keeps. Under another layout's number they are no unit, and no call but its_configure changes them. */
 static void a_kept_unit(void) {
     check("the layout", unit.words[0] == ITS_LAYOUT);
     unit.words[0] = ITS_LAYOUT + 1;

@@ -18,7 +18,7 @@ use Rattle.guarantees.proofs.Again.{tries-again}
 use Rattle.guarantees.proofs.Later.{tried-later}
 use Rattle.guarantees.proofs.Profiles.{base-as-01, base-led, base-configured, base-call-configured, profiles-alike, verdicts-alike, calls-begin, calls-go-on}
 use Rattle.guarantees.proofs.Traces.{base-traces, traces-alike}
-use Rattle.guarantees.proofs.Holding.{held-stores, another-layout}
+use Rattle.guarantees.proofs.Holding.{held-stores, no-such-profile, call-no-such-profile, call-no-such-setting, another-layout, layout-before}
 use Rattle.guarantees.proofs.ExampleAlike.{example-strict}
 
 pub theorems : Theorems
@@ -35,6 +35,9 @@ theorems =
       base-call-configured = base-call-configured;
       base-traces = base-traces;
       held-stores = held-stores;
+      no-such-profile = no-such-profile;
+      call-no-such-profile = call-no-such-profile;
+      call-no-such-setting = call-no-such-setting;
       profiles-alike = profiles-alike;
       verdicts-alike = verdicts-alike;
       calls-begin = calls-begin;
@@ -42,6 +45,7 @@ theorems =
       traces-alike = traces-alike;
       example-strict = example-strict;
       another-layout = another-layout;
+      layout-before = layout-before;
       actions-given = actions-given;
       call-actions-given = call-actions-given;
       actions-firm = actions-firm;

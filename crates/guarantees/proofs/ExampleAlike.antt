@@ -22,10 +22,10 @@ use Rattle.model.specs.Common.{Common, CommonWrite}
 use Rattle.model.specs.Corners.{configured, withLimit, mapd, mapc, mapti, exampleMet}
 use Rattle.model.proofs.Cases.{never}
 use Rattle.model.proofs.Computed.{shown}
-use Rattle.its.specs.Contracts.{Configures, Writes, Translates}
+use Rattle.its.specs.Contracts.{Writes}
 use Rattle.guarantees.specs.MappingsInForce.{Led, begins, a-write}
 use Rattle.guarantees.specs.Profiles.{LedAlike, both-begin, both-write}
-use Rattle.guarantees.specs.ExampleCalls.{window, row, rowLeft}
+use Rattle.guarantees.specs.ExampleCalls.{window, row}
 use Rattle.guarantees.specs.ExampleStrict.{againWindow, ExampleStrict}
 
 -- the units of a profile: configured, and after each of the writes

@@ -1,6 +1,8 @@
 -- DEMAND 3 over the contracts: what every access keeps (model: Held) is kept by every answer that meets the contracts, so it holds of every unit to which
 -- calls led; and from it follows what is demanded.
 -- Assumes nothing.
+use Prim.Native.Nat.{_≤_}
+use native.Mathlib.Omega.{arith}
 use mathlib.Core.Path.{refl, sym, ap, subst, _∙_}
 use mathlib.Core.List.{List, [], _++_}
 use Rattle.model.specs.declared.ItsConfig.{ItsConfig}
@@ -38,6 +40,13 @@ demanded {k = k} {u = u} m commands =
       numbers = λ d e r q why h. rw (h, only-8 m d e why (sym (q .answer) ∙ h)) refl;
       backed = promised m .backed;
       below-capacity = λ s d e x c i. promised m .below (is-strict k s) d e x c (rw s i);
+      announced = λ s d bits x. promised m .announced (is-strict k s) d bits x;
+      not-announced = λ s d e r q above.
+          q .answer
+          ∙ nowhere m d e .1 (λ l c i.
+          let b = promised m .backed d e l c i in
+          let small : d .0 ≤ 65535 = promised m .announced (is-strict k s) d (b .event-bits) (b .device-mapped) in
+          omega (arith, small, above));
       never-1 = sound-never-1 u (m .sound);
       commands = commands;
     }

@@ -1,29 +1,26 @@
 -- A base unit is document 01's, and where the profiles agree both answer alike (model: Profiles, Alike).
 -- Assumes nothing.
 use Prim.Native.Nat.{ℕ}
-use mathlib.Core.Path.{_≡_, refl, sym, ap, ap₂, subst, _∙_}
-use mathlib.Core.Bool.{true}
+use mathlib.Core.Path.{_≡_, refl, sym, ap, subst, _∙_}
 use mathlib.Core.List.{List, [], _∷_, map}
 use lib.ListN.{getD}
 use Rattle.model.specs.declared.ItsConfig.{ItsConfig}
 use Rattle.model.specs.declared.ItsState.{ItsState}
 use Rattle.model.specs.declared.ItsAction.{ItsAction}
-use Rattle.model.specs.declared.Verdict.the-variants.{Accepted}
 use Rattle.model.specs.declared.Configured.{Configured}
 use Rattle.model.specs.declared.Command.{Command}
-use Rattle.model.specs.Choose.{if_then_else_}
-use Rattle.model.specs.With.{withRegisters, withProfile}
+use Rattle.model.specs.With.{withProfile}
 use Rattle.model.specs.Refusal.{verdictNumber}
-use Rattle.model.specs.Queue.{Window, runQueue}
-use Rattle.model.specs.Entry.{configure, stores, write}
+use Rattle.model.specs.Queue.{Window}
+use Rattle.model.specs.Entry.{configure, stores}
 use Rattle.model.specs.In01.{configureIn01}
 use Rattle.model.specs.Common.{inProfile, CommonWrite}
-use Rattle.model.specs.Trace.{Record, CF, GM, RD, WR, TR, line, readLine, translateLine, writeLines, lentRow, writeOf, linesOf}
+use Rattle.model.specs.Trace.{Record, CF, GM, RD, WR, TR, lentRow, writeOf, linesOf}
 use Rattle.model.proofs.Cases.{cases}
 use Rattle.model.proofs.Profiles.{base-reads, base-translates, base-writes, base-configures}
-use Rattle.model.proofs.Alike.{same-reads, same-translates, same-writes, same-made, same-stores, same-verdict, same-fresh, fresh-base}
+use Rattle.model.proofs.Alike.{same-reads, same-translates, same-writes, same-made, same-verdict, same-fresh, fresh-base}
 use Rattle.its.specs.Contracts.{Configures, Writes}
-use Rattle.host.specs.Calls.{Tells, numbersOfRead, numbersOfWrite, numbersOfTranslation, actionIn, rowWith, actionsMade, setting, noneFurther, configGiven, numbersOfVerdict, CallConfigures, CallReads, CallWrites, CallTranslates}
+use Rattle.host.specs.Calls.{Tells, numbersOfRead, numbersOfWrite, numbersOfTranslation, actionIn, rowWith, actionsMade, setting, noneFurther, configGiven, numbersOfVerdict, CallConfigures, CallWrites}
 use Rattle.guarantees.specs.MappingsInForce.{Led}
 use Rattle.guarantees.specs.Profiles.{standing, linesIn01, InBase, As01, LedAlike, both-begin, both-write, CommonRecord, AnswerAlike}
 use Rattle.guarantees.proofs.Follows.{commands-follow}

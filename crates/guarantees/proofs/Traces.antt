@@ -1,27 +1,28 @@
--- Whole traces, record by record: those of base are 01's, and where the profiles agree both have the same lines.
+-- Whole traces, record by record: those of base are 01's, and where the profiles agree both have the same lines. Then of its_trace.
 -- Assumes nothing.
-use Prim.Native.Nat.{ℕ}
+use Prim.Native.Nat.{ℕ, zero, suc, _+_}
 use mathlib.Core.Path.{_≡_, refl, sym, ap, ap₂, _∙_}
-use mathlib.Core.Bool.{true, false}
-use mathlib.Core.List.{List, [], _∷_, _++_, map}
+use mathlib.Core.Bool.{true}
+use mathlib.Core.List.{List, [], _∷_, _++_, map, append-assoc}
+use lib.ListN.{length, drop}
 use mathlib.Core.Logic.{_⊎_, inl, inr}
 use Rattle.model.specs.declared.ItsConfig.{ItsConfig}
 use Rattle.model.specs.declared.ItsState.{ItsState}
-use Rattle.model.specs.declared.Refusal.the-variants.{Unsound}
 use Rattle.model.specs.declared.Verdict.{Verdict}
 use Rattle.model.specs.declared.Verdict.the-variants.{Accepted, Refused}
 use Rattle.model.specs.With.{withProfile}
 use Rattle.model.specs.Refusal.{verdictNumber}
 use Rattle.model.specs.Config.{soundConfig, noUnit}
 use Rattle.model.specs.Queue.{Window}
-use Rattle.model.specs.Entry.{configure, stores, write}
+use Rattle.model.specs.Entry.{configure}
 use Rattle.model.specs.Common.{inProfile}
-use Rattle.model.specs.Trace.{Record, CF, GM, RD, WR, TR, Running, atStart, line, writeLines, lentRow, writeOf, next, linesOf}
+use Rattle.model.specs.Trace.{Record, CF, GM, RD, WR, TR, Parsed, whole, broken, parse, Running, atStart, line, lentRow, writeOf, next, linesOf, goOnWith, linesFrom, traceLines, outputWith, returnedWith, outputAfter, returned}
 use Rattle.model.proofs.Cases.{cases, never}
 use Rattle.model.proofs.Profiles.{base-configures, base-writes}
 use Rattle.model.proofs.Alike.{same-writes, same-verdict, same-fresh}
-use Rattle.guarantees.specs.Profiles.{standing, InBase, CommonRecord}
-use Rattle.guarantees.specs.Traces.{linesAfter, nextIn01, linesAfterIn01, AllInBase, CommonAlong, inStrict}
+use Rattle.guarantees.specs.Profiles.{InBase, CommonRecord}
+use Rattle.trace.specs.Traced.{Traced}
+use Rattle.guarantees.specs.Traces.{readOn, recordsFrom, readAs, recordsIn, linesAfter, nextIn01, linesAfterIn01, traceLinesIn01, AllInBase, CommonAlong, inStrict, SameInStrict}
 use Rattle.guarantees.proofs.Follows.{commands-follow}
 use Rattle.guarantees.proofs.Profiles.{lines-as-01, lines-alike}
 
@@ -50,11 +51,11 @@ next-as-01 s b (RD offset width) c = refl
 next-as-01 s b (WR offset width value) c = rw (base-writes (s .unit) b (s .window) lentRow offset width value)
 next-as-01 s b (TR d e) c = refl
 
-pub base-traces : (s : Running) → s .unit .config .profile ≡ 0 → (rs : List Record) → AllInBase rs → linesAfter s rs ≡ linesAfterIn01 s rs
-base-traces s b [] c = refl
-base-traces s b (r ∷ rs) c =
+base-records : (s : Running) → s .unit .config .profile ≡ 0 → (rs : List Record) → AllInBase rs → linesAfter s rs ≡ linesAfterIn01 s rs
+base-records s b [] c = refl
+base-records s b (r ∷ rs) c =
     ap₂ _++_ (lines-as-01 (s .unit) b (s .window) r (c .0))
-    (base-traces (next s r) (stays-base s b r (c .0)) rs (c .1) ∙ ap (λ t. linesAfterIn01 t rs) (next-as-01 s b r (c .0)))
+    (base-records (next s r) (stays-base s b r (c .0)) rs (c .1) ∙ ap (λ t. linesAfterIn01 t rs) (next-as-01 s b r (c .0)))
 
 -- In both: the strict run t beside the base run s has the same unit, or that unit in strict.
 abbrev Beside : Running → Running → Type 0
@@ -108,6 +109,39 @@ traces-beside s t (w, inr (b, e)) (r ∷ rs) c d =
     let (lines, beside) = strict-next s b (t .unit) e r (c .0) (d .0) (t .window) w in
     ap₂ _++_ lines (traces-beside (next s r) (next t (inStrict r)) beside rs (c .1) (d .1))
 
--- from the start of a trace on
-pub traces-alike : (rs : List Record) → AllInBase rs → CommonAlong atStart rs → linesAfter atStart (map inStrict rs) ≡ linesAfter atStart rs
-traces-alike rs c d = traces-beside atStart atStart (refl, inl refl) rs c d
+-- THE LINES OF A TRACE are those of its records, and that of a broken one.
+from-records : (k at : ℕ) (s : Running) (l : List ℕ) → linesFrom k at s l ≡ linesAfter s (recordsFrom k at l .records) ++ recordsFrom k at l .ending
+from-records zero at s l = refl
+from-records (suc k) at s [] = refl
+from-records (suc k) at s (b ∷ l) = go (λ n t. from-records k (at + n) t (drop n (b ∷ l))) (parse (b ∷ l))
+  where
+    go : ((n : ℕ) (t : Running) →
+        linesFrom k (at + n) t (drop n (b ∷ l)) ≡ linesAfter t (recordsFrom k (at + n) (drop n (b ∷ l)) .records) ++ recordsFrom k (at + n) (drop n (b ∷ l)) .ending) →
+        (p : Parsed) →
+        goOnWith p at (λ r n. linesOf s r ++ linesFrom k (at + n) (next s r) (drop n (b ∷ l)))
+        ≡ linesAfter s (readOn p at (λ n. recordsFrom k (at + n) (drop n (b ∷ l))) .records) ++ readOn p at (λ n. recordsFrom k (at + n) (drop n (b ∷ l))) .ending
+    go rest broken = refl
+    go rest (whole r n) =
+        ap (λ ls. linesOf s r ++ ls) (rest n (next s r))
+        ∙ sym (append-assoc (linesOf s r) (linesAfter (next s r) (recordsFrom k (at + n) (drop n (b ∷ l)) .records)) (recordsFrom k (at + n) (drop n (b ∷ l)) .ending))
+
+pub by-records : (trace : List ℕ) → traceLines trace ≡ linesAfter atStart (recordsIn trace) ++ readAs trace .ending
+unfolding traceLines
+by-records trace = from-records (length trace) 0 atStart trace
+
+-- its_trace: what it returns and writes is that of the lines
+pub base-traces : (trace out : List ℕ) (r : ℕ) (left : List ℕ) → Traced trace out r left → AllInBase (recordsIn trace) →
+    (r ≡ returnedWith (traceLinesIn01 trace) out) × (left ≡ outputWith (traceLinesIn01 trace) out)
+unfolding returned outputAfter
+base-traces trace out r left t c =
+    let same : traceLines trace ≡ traceLinesIn01 trace = by-records trace ∙ ap (λ ls. ls ++ readAs trace .ending) (base-records atStart refl (recordsIn trace) c) in
+    (t .0 ∙ ap (λ ls. returnedWith ls out) same, t .1 ∙ ap (λ ls. outputWith ls out) same)
+
+pub traces-alike : (trace trace′ out : List ℕ) (r r′ : ℕ) (left left′ : List ℕ) → Traced trace out r left → Traced trace′ out r′ left′ →
+    SameInStrict trace trace′ → AllInBase (recordsIn trace) → CommonAlong atStart (recordsIn trace) → (r′ ≡ r) × (left′ ≡ left)
+unfolding returned outputAfter
+traces-alike trace trace′ out r r′ left left′ t t′ (rs, end) c d =
+    let strictly : linesAfter atStart (recordsIn trace′) ≡ linesAfter atStart (recordsIn trace) =
+    ap (linesAfter atStart) rs ∙ traces-beside atStart atStart (refl, inl refl) (recordsIn trace) c d in
+    let same : traceLines trace′ ≡ traceLines trace = by-records trace′ ∙ (ap₂ _++_ strictly end ∙ sym (by-records trace)) in
+    (t′ .0 ∙ (ap (λ ls. returnedWith ls out) same ∙ sym (t .0)), t′ .1 ∙ (ap (λ ls. outputWith ls out) same ∙ sym (t .1)))

@@ -2,7 +2,7 @@
 -- when the commands carried out so far put that pair in force, and to the LPI and processor that those commands give. Nothing here speaks of a
 -- definition of an access: each access is any answer that meets the entry's contract (crates/its/specs/Contracts.antt).
 -- Assumes nothing.
-use Prim.Native.Nat.{ℕ}
+use Prim.Native.Nat.{ℕ, _≤_, _<_}
 use mathlib.Core.Path.{_≡_}
 use mathlib.Core.Bool.{true}
 use mathlib.Core.List.{List, [], _++_}
@@ -30,7 +30,7 @@ use Rattle.model.specs.Config.{soundUnit}
 use Rattle.model.specs.Profile.{strict, profileOf}
 use Rattle.model.specs.Queue.{Window}
 use Rattle.model.specs.Entry.{stores}
-use Rattle.model.specs.Paragraph.{InForce}
+use Rattle.model.specs.Paragraph.{DeviceMapped, InForce}
 use Rattle.model.specs.Promise.{SentTo, Backed, BelowCapacity}
 use Rattle.its.specs.Contracts.{Configures, Reads, Writes, Translates}
 use Rattle.guarantees.specs.Actions.{passedBy}
@@ -78,6 +78,10 @@ pub record MappingsInForce (k : ItsConfig) (u : ItsState) (h : List Command) : T
   pub backed : (d : ItsDeviceId) (e : EventId) (l : LpiId) (c : CollectionId) → InForce (profileOf k) h d e l c → Backed k h d l c
   -- in strict besides: each pair in force lies below its device's present capacity (02, A3)
   pub below-capacity : profileOf k ≡ strict → (d : ItsDeviceId) (e : EventId) (l : LpiId) (c : CollectionId) → InForce strict h d e l c → BelowCapacity h d e
+  -- no device above 65535 is mapped
+  pub announced : profileOf k ≡ strict → (d : ItsDeviceId) (bits : ℕ) → DeviceMapped h d bits → d .0 ≤ 65535
+  -- so a message of one is refused with 8
+  pub not-announced : profileOf k ≡ strict → (d : ItsDeviceId) (e : EventId) (r : TranslateAnswer) → Translates u d e r → 65535 < d .0 → r ≡ NotDelivered ResourceNotFound
   -- 1 is never answered: to no read, no translation and no write (Refusals)
   pub never-1 : NeverOne u
   -- every command that a write passes lay whole in the window, is of one of the kinds and was accepted by the unit that met it (Kept)

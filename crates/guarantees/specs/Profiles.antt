@@ -19,7 +19,7 @@ use Rattle.model.specs.declared.Written.{Written}
 use Rattle.model.specs.With.{withRegisters, withProfile}
 use Rattle.model.specs.Refusal.{verdictNumber, readNumbers, translateNumbers}
 use Rattle.model.specs.Queue.{Window}
-use Rattle.model.specs.Entry.{Outcome, stores}
+use Rattle.model.specs.Entry.{stores}
 use Rattle.model.specs.In01.{configureIn01, readIn01, translateIn01, writeIn01}
 use Rattle.model.specs.Common.{inProfile, CommonWrite}
 use Rattle.model.specs.Trace.{Record, CF, GM, RD, WR, TR, Running, line, readLine, translateLine, writeLines, lentRow, linesOf}

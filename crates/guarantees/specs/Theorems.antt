@@ -1,7 +1,7 @@
 -- ALL THAT IS GUARANTEED of the public entries, in one place: each field is a theorem over their contracts (crates/its/specs/Contracts.antt,
 -- crates/host/specs/Calls.antt), for all inputs. What a theorem concludes is said in the file that it is taken from. proofs/All.antt holds them all.
 -- Assumes nothing.
-use Prim.Native.Nat.{ℕ, _≤_}
+use Prim.Native.Nat.{ℕ, _+_, _≤_, _<_}
 use mathlib.Core.Path.{_≡_}
 use mathlib.Core.Bool.{true, false}
 use mathlib.Core.List.{List, [], _∷_, _++_, map}
@@ -23,18 +23,20 @@ use Rattle.model.specs.declared.Configured.{Configured}
 use Rattle.model.specs.declared.Written.{Written}
 use Rattle.model.specs.Refusal.{numberOf, reasons, numberIn01, folded}
 use Rattle.model.specs.Config.{soundUnit}
-use Rattle.model.specs.Profile.{Profile, profileOf}
+use Rattle.model.specs.Arm.{_of_, CBASER·Valid}
+use Rattle.model.specs.Profile.{Profile, strict, profileOf}
 use Rattle.model.specs.Step.{check}
-use Rattle.model.specs.Queue.{Window, stays, turn, held}
+use Rattle.model.specs.Queue.{Window, stays, turn}
 use Rattle.model.specs.With.{withProfile}
 use Rattle.model.specs.Entry.{stores}
 use Rattle.model.specs.In01.{configureIn01}
 use Rattle.model.specs.Common.{CommonWrite}
-use Rattle.model.specs.Trace.{Record, Running, atStart, lentRow}
+use Rattle.model.specs.Trace.{atStart, lentRow, outputWith, returnedWith}
 use Rattle.its.specs.declared.WrittenRow.{WrittenRow}
 use Rattle.its.specs.Contracts.{NoUnit, Configures, Reads, Writes, WritesLent, Translates}
-use Rattle.lent_tables.specs.Numbers.{laidOut, unitIn}
-use Rattle.host.specs.Calls.{Tells, numbersOfVerdict, numbersOfWrite, actionIn, setting, configGiven, CallConfigures, CallWrites}
+use Rattle.trace.specs.Traced.{Traced}
+use Rattle.lent_tables.specs.Numbers.{LAYOUT, LAYOUT-NUMBER, word, unitIn}
+use Rattle.host.specs.Calls.{Tells, numbersOfVerdict, numbersOfWrite, actionIn, setting, SETTINGS, configGiven, CallConfigures, CallWrites}
 use Rattle.guarantees.specs.Firm.{Answered, Firm, OfEveryEntry}
 use Rattle.guarantees.specs.Actions.{ActionsOf, ActionsGiven, CallActionsGiven}
 use Rattle.guarantees.specs.Refusals.{at-command, givenAt, IfRefused, ReadLeaves, TranslateLeaves, AnswersOne, NeverOne}
@@ -45,7 +47,7 @@ use Rattle.guarantees.specs.MappingsInForce.{Led, OfWritesTo, MappingsIn
 use Rattle.guarantees.specs.CallsInForce.{LedByCalls, OfCallsTo, CallsInForce}
 use Rattle.guarantees.specs.Retries.{Tries, TriesAgain, TriedLater}
 use Rattle.guarantees.specs.Profiles.{As01, OnlyStores, LedAlike, AnswerAlike}
-use Rattle.guarantees.specs.Traces.{linesAfter, linesAfterIn01, AllInBase, CommonAlong, inStrict}
+use Rattle.guarantees.specs.Traces.{recordsIn, traceLinesIn01, AllInBase, CommonAlong, SameInStrict}
 use Rattle.guarantees.specs.ExampleStrict.{ExampleStrict}
 use Rattle.guarantees.specs.ExampleCalls.{ExampleByEntries, ExampleByCalls}
 
@@ -74,11 +76,19 @@ pub record Theorems : Type 0 where
   -- by its_configure too: setting 3, left out or 0, is base
   pub base-call-configured : (ss ps : List ℕ) → setting ss 3 ≡ 0 → (u : ItsState) (r : ℕ) (told : List ℕ) → CallConfigures ss ps u r told →
       (u ≡ configureIn01 (configGiven ss ps) .unit) × Tells (numbersOfVerdict (configureIn01 (configGiven ss ps))) r told
-  -- and a whole trace whose configurations are in base has the lines of 01's unit (Traces)
-  pub base-traces : (s : Running) → s .unit .config .profile ≡ 0 → (rs : List Record) → AllInBase rs → linesAfter s rs ≡ linesAfterIn01 s rs
-  -- STRICT: a queue that is held runs nothing (Profiles), on every unit. (A valid MAPD: mappings-in-force; device too large: refused-because)
-  pub held-stores : OfEveryWrite (λ w row u offset width value r left. stores row u offset width value .runs ≡ true →
-      held (u .config) (stores row u offset width value .registers) ≡ true → OnlyStores row u (stores row u offset width value) r left)
+  -- and its_trace, of a trace whose configurations are in base, writes the lines of 01's unit (Traces)
+  pub base-traces : (trace out : List ℕ) (r : ℕ) (left : List ℕ) → Traced trace out r left → AllInBase (recordsIn trace) →
+      (r ≡ returnedWith (traceLinesIn01 trace) out) × (left ≡ outputWith (traceLinesIn01 trace) out)
+  -- STRICT: while bit 63 of CBASER is 0 the queue runs nothing and there is no 5 (Profiles), on every unit. (A valid MAPD: mappings-in-force; device too
+  -- large: refused-because)
+  pub held-stores : OfEveryWrite (λ w row u offset width value r left. profileOf (u .config) ≡ strict → stores row u offset width value .runs ≡ true →
+      CBASER·Valid of stores row u offset width value .registers .cbaser ≡ 0 → OnlyStores row u (stores row u offset width value) r left)
+  -- A PROFILE THAT THERE IS NOT is refused with 1: any number above 1
+  pub no-such-profile : (k : ItsConfig) (c : Configured) → Configures k c → 1 < k .profile → c .verdict ≡ Refused Unsound
+  -- by its_configure too
+  pub call-no-such-profile : (ss ps : List ℕ) (u : ItsState) (r : ℕ) (told : List ℕ) → CallConfigures ss ps u r told → 1 < setting ss 3 → r ≡ 1
+  -- and there a setting behind the known ones, unless it is 0
+  pub call-no-such-setting : (ss ps : List ℕ) (u : ItsState) (r : ℕ) (told : List ℕ) → CallConfigures ss ps u r told → (i : ℕ) → (setting ss (SETTINGS + i) ≡ 0 → ⊥) → r ≡ 1
   -- WHERE THE PROFILES AGREE BOTH ANSWER ALIKE (Profiles): over whole runs of accesses on which they agree
   pub profiles-alike : {k : ItsConfig} {u v : ItsState} → LedAlike k u v → AnswerAlike u v
   -- and both accept the same configurations
@@ -90,8 +100,9 @@ pub record Theorems : Type 0 where
   pub calls-go-on : {k : ItsConfig} {u v : ItsState} → LedAlike k u v → (w : Window) (row : List ℕ) (offset width value : ℕ) →
       CommonWrite w u (stores (map actionIn row) u offset width value) → (left left′ : ItsState) (after after′ : List ℕ) (r r′ : ℕ) (told told′ : List ℕ) →
       CallWrites w row u offset width value left after r told → CallWrites w row v offset width value left′ after′ r′ told′ → LedAlike k left left′
-  -- and a whole trace has the same lines when its configurations are in strict (Traces)
-  pub traces-alike : (rs : List Record) → AllInBase rs → CommonAlong atStart rs → linesAfter atStart (map inStrict rs) ≡ linesAfter atStart rs
+  -- and its_trace returns and writes the same for a trace and for the same one with its configurations in strict (Traces)
+  pub traces-alike : (trace trace′ out : List ℕ) (r r′ : ℕ) (left left′ : List ℕ) → Traced trace out r left → Traced trace′ out r′ left′ →
+      SameInStrict trace trace′ → AllInBase (recordsIn trace) → CommonAlong atStart (recordsIn trace) → (r′ ≡ r) × (left′ ≡ left)
   -- IT IS NOT EMPTY: 01's example is such a run, and in strict a run of demand 3, after which device 5 is mapped again (ExampleStrict)
   pub example-strict : ExampleStrict
   -- EACH ACTION HANDED OVER IS WHAT THE HISTORY GIVES (Actions): of every write, refused or not, to a unit to which calls led
@@ -148,8 +159,10 @@ pub record Theorems : Type 0 where
   pub unsound-answers-1 : (u : ItsState) → soundUnit u ≡ false → AnswersOne u
   -- a sound unit never answers 1
   pub sound-never-1 : (u : ItsState) → soundUnit u ≡ true → NeverOne u
-  -- 1 to everything: numbers of a host that have another layout
-  pub another-layout : (s : List ℕ) → laidOut s ≡ false → AnswersOne (unitIn s)
+  -- 1 to everything: numbers of a host of which the first is not the layout's
+  pub another-layout : (s : List ℕ) → (word s LAYOUT ≡ LAYOUT-NUMBER → ⊥) → AnswersOne (unitIn s)
+  -- so those of the layout that had no number: the highest LPI stood there
+  pub layout-before : (s : List ℕ) → 8192 ≤ word s LAYOUT → AnswersOne (unitIn s)
   -- 1 to everything too: the unit that stands where none was configured
   pub no-unit-answers-1 : (u : ItsState) → NoUnit u → AnswersOne u
   -- and the one that a refused configuration gives; its refusal is 1

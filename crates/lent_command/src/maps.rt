@@ -18,7 +18,7 @@ ghost use Rattle.model.specs.Step.{lpiInRange, cleared as clearedOf};
 ghost use Rattle.lent_tables.specs.Numbers.{configIn, unitIn, Carries};
 
 // In strict, a device that is mapped loses its translations before it is mapped again.
-fn clear(state: &mut Numbers, device: ItsDeviceId)
+fn cleared(state: &mut Numbers, device: ItsDeviceId)
     ensures { λ _. ⌜ unitIn (now (state .exit)) ≡ clearedOf device (unitIn (now (state .entry))) ⌝ }
 {
     if lent_tables::profile_in(state) != 1 {
@@ -51,7 +51,7 @@ pub fn map_device(state: &mut Numbers, device: ItsDeviceId, event_bits: u8, vali
         event_bits: event_bits,
         used: true,
     };
-    clear(state, device);
+    cleared(state, device);
     lent_tables::put_device(state, at, r);
     Executed::Done
 }

@@ -116,7 +116,7 @@ fn run(state: &mut Numbers, address: u64, bytes: &[u8], row: &mut [u64], count: 
     answers::answer_of(n, state[lent_tables::CREADR])
 }
 
-// An enabled unit runs its queue: 5 is tested once, then each command in turn.
+// A queue that may run is run: 5 is tested once, then each command in turn.
 pub fn process_commands(
     state: &mut Numbers,
     address: u64,

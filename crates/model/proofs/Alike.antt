@@ -22,7 +22,6 @@ use Rattle.model.specs.declared.Verdict.the-variants.{Accepted, Refused}
 use Rattle.model.specs.Choose.{if_then_else_}
 use Rattle.model.specs.Arm.{_of_, CBASER·Valid}
 use Rattle.model.specs.With.{withRegisters, withProfile}
-use Rattle.model.specs.Profile.{strict}
 use Rattle.model.specs.Config.{sizesIn01, soundConfig}
 use Rattle.model.specs.Step.{deliveryIn, actionsOf}
 use Rattle.model.specs.Queue.{Window, waiting, Turn, passes, stays, turn, carryOut, ended, andThen, goOn, run, held, mayRun, runQueue}

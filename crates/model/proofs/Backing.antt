@@ -1,11 +1,12 @@
 -- Each pair in force is backed: its LPI is in range, its device and its collection are mapped, and every mapped collection's processor is listed. In
--- strict its event lies below its device's capacity too. Each accepted command keeps that.
+-- strict its event lies below its device's capacity too, and no device above 65535 is mapped. Each accepted command keeps that.
 -- Assumes nothing.
 use Prim.Native.Nat.{ℕ}
 use mathlib.Core.Path.{_≡_, refl, sym, _∙_}
-use mathlib.Core.Bool.{Bool, true, false, _&&_}
+use mathlib.Core.Bool.{Bool, true, false, _&&_, not}
 use mathlib.Core.List.{List, [], _∷_}
 use mathlib.Core.Option.{Option, none, some}
+use lib.Dec.{ltb}
 use Rattle.model.specs.declared.ItsDeviceId.{ItsDeviceId}
 use Rattle.model.specs.declared.EventId.{EventId}
 use Rattle.model.specs.declared.CollectionId.{CollectionId}
@@ -16,16 +17,16 @@ use Rattle.model.specs.declared.ItsConfig.{ItsConfig}
 use Rattle.model.specs.declared.ItsState.{ItsState}
 use Rattle.model.specs.declared.Command.{Command}
 use Rattle.model.specs.declared.Command.the-variants.{Mapd, Mapc, Mapti, Mapi, Movi, Int, Clear, Discard, Inv, Invall, Sync}
-use Rattle.model.specs.declared.Refusal.the-variants.{CollectionUnmapped, ProcessorUnlisted}
+use Rattle.model.specs.declared.Refusal.the-variants.{CollectionUnmapped, ProcessorUnlisted, DeviceTooLarge}
 use Rattle.model.specs.declared.Verdict.the-variants.{Refused}
 use Rattle.model.specs.Choose.{if_then_else_, whenFound, ifFound, isFound}
 use Rattle.model.specs.Keys.{sameDevice, sameCollection, samePair, eventAsLpi}
 use Rattle.model.specs.Profile.{Profile, base, strict, isStrict, profileOf, mapdEnds}
 use Rattle.model.specs.Config.{listed}
-use Rattle.model.specs.Step.{deviceOf, collectionOf, lpiInRange, eventBelow, deviceMapped, eventFits, collectionMapped, checkMapping, isAccepted, accepts}
+use Rattle.model.specs.Step.{deviceOf, collectionOf, lpiInRange, eventBelow, deviceMapped, eventFits, collectionMapped, checkMapping, checkIn01, tooLarge, isAccepted, accepts}
 use Rattle.model.specs.History.{ofDeviceSays, deviceNow, ofCollectionSays, collectionNow, Part, maps, moves, ends, endsIn, leaves, partIn, PairEntry, anEntry, pairAfter, pairNow}
 use Rattle.model.proofs.Cases.{cases, never, found-when}
-use Rattle.model.proofs.KeyLaws.{eqb-sym, pair-device, pair-event}
+use Rattle.model.proofs.KeyLaws.{eqb-sym, device-eq, pair-device, pair-event}
 use Rattle.model.proofs.Effects.{entryIn, Clean, allowed, passed, own}
 use Rattle.model.proofs.Agreement.{Agrees}
 
@@ -62,6 +63,7 @@ pub record Sound (k : ItsConfig) (h : List Command) : Type 0 where
   pub processors : (c : CollectionId) (p : GicVcpuId) → collectionNow c h ≡ some p → listed k p ≡ true
   pub below : isStrict (k .profile) ≡ true → (d : ItsDeviceId) (e : EventId) (x : PairEntry) → pairNow (profileOf k) d e h ≡ some x →
       (bits : ℕ) → deviceNow d h ≡ some bits → eventBelow bits e ≡ true
+  pub announced : isStrict (k .profile) ≡ true → (d : ItsDeviceId) (bits : ℕ) → deviceNow d h ≡ some bits → ltb 65535 (d .0) ≡ false
 
 pub sound-fresh : (k : ItsConfig) → Sound k []
 sound-fresh k =
@@ -69,6 +71,7 @@ sound-fresh k =
       behind = λ d e x h. never true refl (cc);
       processors = λ c p h. never true refl (cc);
       below = λ s d e x h. never true refl (cc);
+      announced = λ s d bits h. never true refl (cc);
     }
 
 -- an invalid MAPD ends pairs in both profiles
@@ -237,5 +240,33 @@ module _ (u : ItsState) (h : List Command) (agrees : Agrees h u) (sound : Sound 
     below-step (Invall c) ok d e y q bits m = before d e y q bits m
     below-step Sync ok d e y q bits m = before d e y q bits m
 
+    -- a MAPD that is accepted names no device above 65535
+    small-mapd : (d : ItsDeviceId) (n : ℕ) (valid : Bool) → accepts u (Mapd d n valid) ≡ true → ltb 65535 (d .0) ≡ false
+    unfolding tooLarge
+    small-mapd d n valid ok =
+        let small : not (tooLarge (u .config) d) ≡ true = passed (not (tooLarge (u .config) d)) (Refused DeviceTooLarge) (checkIn01 u (Mapd d n valid)) refl ok .0 in
+        let not-above : not (ltb 65535 (d .0)) ≡ true = rw s at small in
+        cases (ltb 65535 (d .0)) (λ y. let z : not true ≡ true = rw y at not-above in never true refl (sym z)) (λ n. n)
+
+    announced-step : (x : Command) → accepts u x ≡ true → (d : ItsDeviceId) (bits : ℕ) → deviceNow d (x ∷ h) ≡ some bits → ltb 65535 (d .0) ≡ false
+    unfolding ofDeviceSays
+    announced-step (Mapd d′ n true) ok d bits m =
+        cases (sameDevice d′ d) (λ z. rw (← (device-eq d′ d z)) (small-mapd d′ n true ok)) (λ z. sound .announced s d bits (rw z at m))
+    announced-step (Mapd d′ n false) ok d bits m =
+        cases (sameDevice d′ d)
+        (λ z. let no : _≡_ {A = Option ℕ} none (some bits) = rw z at m in never true refl (cc))
+        (λ z. sound .announced s d bits (rw z at m))
+    announced-step (Mapc c p valid) ok d bits m = sound .announced s d bits m
+    announced-step (Mapti d′ e l c) ok d bits m = sound .announced s d bits m
+    announced-step (Mapi d′ e c) ok d bits m = sound .announced s d bits m
+    announced-step (Movi d′ e c) ok d bits m = sound .announced s d bits m
+    announced-step (Int d′ e) ok d bits m = sound .announced s d bits m
+    announced-step (Clear d′ e) ok d bits m = sound .announced s d bits m
+    announced-step (Discard d′ e) ok d bits m = sound .announced s d bits m
+    announced-step (Inv d′ e) ok d bits m = sound .announced s d bits m
+    announced-step (Invall c) ok d bits m = sound .announced s d bits m
+    announced-step Sync ok d bits m = sound .announced s d bits m
+
   pub sound-step : (x : Command) → accepts u x ≡ true → Sound (u .config) (x ∷ h)
-  sound-step x ok = record { behind = behind-step x ok; processors = processors-step x ok; below = λ s. below-step s x ok }
+  sound-step x ok =
+      record { behind = behind-step x ok; processors = processors-step x ok; below = λ s. below-step s x ok; announced = λ s. announced-step s x ok }

@@ -40,7 +40,7 @@ use Rattle.model.proofs.Cases.{cases, never, and-left}
 use Rattle.model.proofs.Effects.{rest-effect}
 use Rattle.model.proofs.Turns.{on-words}
 
-off-and : (b : Bool) → (b && false) ≡ false
+pub off-and : (b : Bool) → (b && false) ≡ false
 off-and true = refl
 off-and false = refl
 
@@ -54,25 +54,26 @@ pub sizes-of : (k : ItsConfig) → soundConfig k ≡ true → sizesIn01 k ≡ tr
 unfolding soundConfig
 sizes-of k s = and-left (sizesIn01 k) _ s
 
--- whether the queue may run depends neither on CREADR
+-- whether the queue may run does not depend on CREADR
 pub may-reader : (k : ItsConfig) (r : ItsRegisters) (reader : ℕ) → mayRun k (withReader r reader) ≡ mayRun k r
 unfolding held mayRun
 may-reader k r reader = refl
 
--- nor is it so in a disabled unit
+-- it may not in a disabled unit
 pub may-enabled : (k : ItsConfig) (r : ItsRegisters) → mayRun k r ≡ true → r .enabled ≡ true
 unfolding mayRun
 may-enabled k r h = and-left _ _ h
 
--- nor where the unit is disabled; with bit 63 set it may in both profiles
 pub off-may : (k : ItsConfig) (r : ItsRegisters) → r .enabled ≡ false → mayRun k r ≡ false
 unfolding mayRun
 off-may k r off = rw off
 
+-- nor where it is held
 pub held-may : (k : ItsConfig) (r : ItsRegisters) → held k r ≡ true → mayRun k r ≡ false
 unfolding mayRun
 held-may k r h = rw h (off-and (r .enabled))
 
+-- with bit 63 set it may in both profiles
 pub valid-may : (k : ItsConfig) (r : ItsRegisters) → r .enabled ≡ true → CBASER·Valid of r .cbaser ≡ 1 → mayRun k r ≡ true
 unfolding mayRun held
 valid-may k r on valid = rw (on, valid, off-and (isStrict (k .profile)))

@@ -1,13 +1,14 @@
 -- Demand 3 over the model's own definitions, of any unit that agrees with a history, and of that history: a step on the way to what a reader finds in
 -- `guarantees: MappingsInForce`.
 -- Assumes nothing.
+use Prim.Native.Nat.{ℕ, _≤_}
 use mathlib.Core.Path.{_≡_, refl, sym, ap, _∙_}
 use mathlib.Core.Bool.{true}
 use mathlib.Core.List.{List}
 use mathlib.Core.Option.{Option, none, some}
 use mathlib.Core.Logic.{_↔_}
 use lib.Dec.{leb}
-use borrow.Author.Tests.{leb-true, ltb-true}
+use borrow.Author.Tests.{leb-true, ltb-true, ltb-false}
 use Rattle.model.specs.declared.ItsDeviceId.{ItsDeviceId}
 use Rattle.model.specs.declared.EventId.{EventId}
 use Rattle.model.specs.declared.CollectionId.{CollectionId}
@@ -25,7 +26,7 @@ use Rattle.model.specs.Profile.{Profile, isStrict, profileOf}
 use Rattle.model.specs.Keys.{delivery}
 use Rattle.model.specs.Step.{collectionOf, translationOf, deliveryIn, lpiInRange, eventBelow}
 use Rattle.model.specs.History.{deviceNow, collectionNow, processorNow, PairEntry, anEntry, pairNow, deliveryOf}
-use Rattle.model.specs.Paragraph.{InForce}
+use Rattle.model.specs.Paragraph.{DeviceMapped, InForce}
 use Rattle.model.specs.Promise.{SentTo, Backed, BelowCapacity}
 use Rattle.model.proofs.Cases.{never, and-left, and-right, found}
 use Rattle.model.proofs.Effects.{targetIn, entryOf, entryIn}
@@ -43,6 +44,8 @@ pub record Promise (k : ItsConfig) (u : ItsState) (h : List Command) : Type 0 wh
   pub backed : (d : ItsDeviceId) (e : EventId) (l : LpiId) (c : CollectionId) → InForce (profileOf k) h d e l c → Backed k h d l c
   -- in strict it lies below its device's capacity
   pub below : isStrict (k .profile) ≡ true → (d : ItsDeviceId) (e : EventId) (l : LpiId) (c : CollectionId) → InForce (profileOf k) h d e l c → BelowCapacity h d e
+  -- and no device above 65535 is mapped
+  pub announced : isStrict (k .profile) ≡ true → (d : ItsDeviceId) (bits : ℕ) → DeviceMapped h d bits → d .0 ≤ 65535
 
 -- a message's way in the unit, in terms of what the unit says of pairs and of collections
 module _ (u : ItsState) where
@@ -157,4 +160,5 @@ module _ (u : ItsState) (h : List Command) (agrees : Agrees h u) (sound : Sound 
             };
         below = λ s d e l c i bits m.
             ltb-true _ _ (sound .below s d e (anEntry l c) (in-force f d e h l c .0 i) bits (device-mapped d h bits .0 m));
+        announced = λ s d bits m. ltb-false 65535 (d .0) (sound .announced s d bits (device-mapped d h bits .0 m));
       }

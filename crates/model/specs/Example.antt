@@ -90,8 +90,8 @@ handedTrace =
 unfoldable pub handedLines : List ℕ
 handedLines = exampleLines ++ ascii "GM 0\nWR 8 3 192 2 2\nAC 1 8200 1\nAC 1 8200 0\nWR 8 3 192 0 0\nWR 7 0 33 0 0\n"
 
--- 02, A3. The example in strict, with CBASER's bit 63 clear first: CTLR and CWRITER are stored, CREADR stays. Disabled, and with bit 63 set, the commands
--- run. Then device 5 is mapped again, with commands that name no device though w0 63:32 is 65536: MAPC, INVALL, SYNC, and last the opcode 0E, which is
+-- 02, A3. The example in strict, with CBASER's bit 63 clear first: CTLR and CWRITER are stored and CREADR stays, though 127 commands wait and the budget
+-- is 64. Disabled, and with bit 63 set, the commands run. Then device 5 is mapped again, with commands that name no device though w0 63:32 is 65536: MAPC, INVALL, SYNC, and last the opcode 0E, which is
 -- unknown. The pair (5, 9) is gone, and an INT of device 65536 is too large
 unfoldable pub strictTrace : List ℕ
 strictTrace =
@@ -99,7 +99,8 @@ strictTrace =
     ++ (GMs 0x40000000 exampleCommands
     ++ (WRs 0x80 8 0x40000000
     ++ (WRs 0 4 1
-    ++ (WRs 0x88 8 128
+    ++ (WRs 0x88 8 4064
+    ++ (WRs 0 4 1
     ++ (RDs 0x90 8
     ++ (RDs 0x88 8
     ++ (WRs 0 4 0
@@ -118,10 +119,10 @@ strictTrace =
     ++ (WRs 0x88 8 288
     ++ (TRs 5 9
     ++ (GMs 0x40000100 (words (0x1000000000003 ∷ 9 ∷ 0 ∷ 0 ∷ []))
-    ++ WRs 0 4 1)))))))))))))))
+    ++ WRs 0 4 1))))))))))))))))
 
 -- the lines that it prints
 unfoldable pub strictLines : List ℕ
 strictLines =
-    ascii "CF 0\nGM 0\nWR 0 0 0 0 0\nWR 0 0 0 0 0\nWR 0 0 0 0 0\nRD 0 0\nRD 0 128\nWR 0 0 0 0 0\nWR 0 0 0 0 0\nWR 0 0 0 0 0\n"
+    ascii "CF 0\nGM 0\nWR 0 0 0 0 0\nWR 0 0 0 0 0\nWR 0 0 0 0 0\nWR 0 0 0 0 0\nRD 0 0\nRD 0 4064\nWR 0 0 0 0 0\nWR 0 0 0 0 0\nWR 0 0 0 0 0\n"
     ++ ascii "WR 0 0 0 4 1\nAC 1 8200 1\nTR 0 8200 1\nGM 0\nWR 20 14 256 4 0\nTR 8 0 0\nGM 0\nWR 27 3 256 0 0\n"

@@ -18,7 +18,6 @@ use Rattle.model.specs.declared.Decoded.{Decoded}
 use Rattle.model.specs.declared.Decoded.the-variants.{Known, Unknown}
 use Rattle.model.specs.declared.RegisterWrite.{RegisterWrite}
 use Rattle.model.specs.declared.Refusal.the-variants.{Unsound, RowTooShort, BudgetExceeded, NotInWindow, OpcodeUnknown, ResourceNotFound}
-use Rattle.model.specs.declared.Verdict.{Verdict}
 use Rattle.model.specs.declared.Verdict.the-variants.{Accepted, Refused}
 use Rattle.model.specs.declared.ReadAnswer.{ReadAnswer}
 use Rattle.model.specs.declared.ReadAnswer.the-variants.{Value, NoValue}

@@ -183,17 +183,27 @@ allFit space (l ∷ ls) = leb (length l) space && allFit (space - length l) ls
 abbrev pub space : List ℕ → ℕ
 space out = min (length out) 65536
 
--- the bytes that the C call writes
-abbrev pub writtenTo : List ℕ → List ℕ → List ℕ
-writtenTo trace out = fitting (space out) (traceLines trace)
+-- the bytes that it writes of some lines
+abbrev pub writtenOf : List (List ℕ) → List ℕ → List ℕ
+writtenOf lines out = fitting (space out) lines
 
 -- the output afterwards: earlier lines are written, the rest unchanged
-unfoldable pub outputAfter : List ℕ → List ℕ → List ℕ
-outputAfter trace out = writtenTo trace out ++ drop (length (writtenTo trace out)) out
+abbrev pub outputWith : List (List ℕ) → List ℕ → List ℕ
+outputWith lines out = writtenOf lines out ++ drop (length (writtenOf lines out)) out
 
 -- it returns 16 times the bytes written, plus 11 if a line doesn't fit
+abbrev pub returnedWith : List (List ℕ) → List ℕ → ℕ
+returnedWith lines out = 16 * length (writtenOf lines out) + (if allFit (space out) lines then 0 else numberOf LineDoesNotFit)
+
+-- THE C CALL: with the lines of the trace
+abbrev pub writtenTo : List ℕ → List ℕ → List ℕ
+writtenTo trace out = writtenOf (traceLines trace) out
+
+unfoldable pub outputAfter : List ℕ → List ℕ → List ℕ
+outputAfter trace out = outputWith (traceLines trace) out
+
 unfoldable pub returned : List ℕ → List ℕ → ℕ
-returned trace out = 16 * length (writtenTo trace out) + (if allFit (space out) (traceLines trace) then 0 else numberOf LineDoesNotFit)
+returned trace out = returnedWith (traceLines trace) out
 
 -- The program `itstrace` reads up to 32,768 bytes (more: prints the line `LONG` only), its output buffer the same size; after an 11 it prints
 -- the written lines.

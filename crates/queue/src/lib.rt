@@ -134,7 +134,7 @@ fn first_counts(unit: ItsState) -> Counts
     }
 }
 
-// An enabled unit runs its queue: 5 is tested once.
+// A queue that may run is run: 5 is tested once.
 pub fn start(unit: ItsState) -> Progress
     requires { ⌜ Stands unit ⌝ }
     ensures { λ r. ⌜ r ≡ startOf unit ⌝ }

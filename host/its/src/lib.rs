@@ -87,9 +87,10 @@ impl Its {
         Refusal::of(answer.refusal()).map(|()| answer.value())
     }
 
-    /// Writes a register of the frame. An enabled unit then runs its queue: it
-    /// reads commands from the window, and puts the actions of INT and CLEAR
-    /// into the row, which must have room for a whole command budget.
+    /// Writes a register of the frame. An enabled unit then runs its queue (a
+    /// strict one only while bit 63 of CBASER is 1): it reads commands from the
+    /// window, and puts the actions of INT and CLEAR into the row, which must
+    /// have room for a whole command budget.
     ///
     /// It hands over the actions of this write, which are the row's first, and
     /// answers. They stand beside the answer and not in it, for they are to be

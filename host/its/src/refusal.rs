@@ -50,8 +50,9 @@ macro_rules! refusals {
 }
 
 refusals! {
-    /// The unit is not configured, or its numbers are not those of any unit.
-    Unsound = 1, "the unit is not configured, or its numbers are not those of a unit";
+    /// The settings are not allowed; or the unit is not configured, or its
+    /// numbers are of another layout or of no unit.
+    Unsound = 1, "the settings are not allowed; or the unit is not configured, or its numbers are of another layout or of no unit";
     /// No such access: its width, alignment, or place.
     InvalidAccess = 2, "no register takes an access of this width at this place";
     /// An identification register, which the host answers itself.

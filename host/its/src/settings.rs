@@ -50,6 +50,7 @@ pub struct Settings {
     pub command_budget: u32,
     /// The frame in bytes: 65536 or 131072.
     pub frame_size: u32,
+    /// Base, unless another is named.
     pub profile: Profile,
 }
 

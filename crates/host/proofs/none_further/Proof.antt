@@ -1,6 +1,5 @@
 -- `host::none_further` meets its contract. The invariant: up to i there are zeros.
 -- Assumes nothing.
-use borrow.Author.Needs.{needs}
 use native.Mathlib.Omega.{arith}
 use Prim.Native.Nat.{_+_, _-_, _≤_}
 use native.Mathlib.Numerals.{add-one}

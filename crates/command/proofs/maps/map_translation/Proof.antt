@@ -1,4 +1,4 @@
--- `command::maps::map_translation` meets its contract: document 01's order of checks, and then a record stored where there is room.
+-- `command::maps::map_translation` meets its contract: the device, then document 01's order of checks, and then a record stored where there is room.
 -- Assumes nothing.
 use mathlib.Core.Path.{refl, sym, _∙_}
 use borrow.Author.Needs.{needs}

@@ -48,7 +48,7 @@ returns-4 c =
     let u = unitIn (a .state .now) in
     rw (not-false (a .valid) (i .if2 .left))
     (device-stores u (sized (a .state .now)) (a .device) (a .event-bits) (sym (t .is-too-large .ensures) ∙ g .if1 .left) (p .place-of-device .ensures) (f .if3 .left)
-    (l .clear .ensures) (c .put-device .ensures))
+    (l .cleared .ensures) (c .put-device .ensures))
 
 pub map-device-spec : {M : Type 1} → statement M
 map-device-spec =

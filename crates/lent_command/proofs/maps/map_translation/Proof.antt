@@ -1,4 +1,4 @@
--- `lent_command::maps::map_translation` meets its contract: document 01's order of checks, and then a record stored where there is room.
+-- `lent_command::maps::map_translation` meets its contract: the device, then document 01's order of checks, and then a record stored where there is room.
 -- Assumes nothing.
 use borrow.Author.Needs.{needs}
 use mathlib.Core.Path.{refl, sym, _∙_}

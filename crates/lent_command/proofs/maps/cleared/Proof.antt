@@ -1,4 +1,4 @@
--- `lent_command::maps::clear` meets its contract: in base and for a device that is not mapped nothing is dropped.
+-- `lent_command::maps::cleared` meets its contract: in base and for a device that is not mapped nothing is dropped.
 -- Assumes nothing.
 use mathlib.Core.Path.{sym, _∙_}
 use borrow.Author.Needs.{needs}
@@ -6,8 +6,8 @@ use borrow.Author.Tests.{ne-eqb, eq-eqb}
 use Rattle.lent_tables.specs.Numbers.{unitIn}
 use Rattle.model.proofs.CommandLaws.{base-keeps, first-keeps, again-drops}
 use Rattle.lent_tables.proofs.RecordsAt.{sized}
-use Rattle.lent_command.proofs.maps.clear.Statement.{statement}
-use Rattle.lent_command.proofs.maps.clear.Tie as tie
+use Rattle.lent_command.proofs.maps.cleared.Statement.{statement}
+use Rattle.lent_command.proofs.maps.cleared.Tie as tie
 
 returns : tie.Need-returns
 returns c =
@@ -33,5 +33,5 @@ returns-3 c =
     again-drops (unitIn (a .state .now)) (sized (a .state .now)) (a .device) (eq-eqb _ _ (sym (p .profile-in .ensures) ∙ i .if1 .left)) (f .find-device .ensures) (j .if2 .left)
     (c .drop-translations-of .ensures)
 
-pub clear-spec : {M : Type 1} → statement M
-clear-spec = tie.close (tie.spec (λ c κs. search needs) returns (λ c κs. search needs) returns-2 (λ c κs. search needs) returns-3)
+pub cleared-spec : {M : Type 1} → statement M
+cleared-spec = tie.close (tie.spec (λ c κs. search needs) returns (λ c κs. search needs) returns-2 (λ c κs. search needs) returns-3)
