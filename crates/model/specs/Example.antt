@@ -91,8 +91,8 @@ unfoldable pub handedLines : List ℕ
 handedLines = exampleLines ++ ascii "GM 0\nWR 8 3 192 2 2\nAC 1 8200 1\nAC 1 8200 0\nWR 8 3 192 0 0\nWR 7 0 33 0 0\n"
 
 -- 02, A3. The example in strict, with CBASER's bit 63 clear first: CTLR and CWRITER are stored and CREADR stays, though 127 commands wait and the budget
--- is 64. Disabled, and with bit 63 set, the commands run. Then device 5 is mapped again, with commands that name no device though w0 63:32 is 65536: MAPC, INVALL, SYNC, and last the opcode 0E, which is
--- unknown. The pair (5, 9) is gone, and an INT of device 65536 is too large
+-- is 64. Disabled, and with bit 63 set, the commands run. Then device 5 is mapped again, with commands that name no device though w0 63:32 is 65536:
+-- MAPC, INVALL, SYNC, and last the opcode 0E, which is unknown. The pair (5, 9) is gone, and an INT of device 65536 is too large
 unfoldable pub strictTrace : List ℕ
 strictTrace =
     CFs 1
