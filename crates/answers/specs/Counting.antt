@@ -8,13 +8,14 @@ use mathlib.Core.Option.{Option, none, some}
 use Rattle.model.specs.declared.ItsState.{ItsState}
 use Rattle.model.specs.declared.ItsAction.{ItsAction}
 use Rattle.model.specs.declared.Refusal.{Refusal}
+use Rattle.model.specs.declared.Refusal.the-variants.{BudgetExceeded}
 use Rattle.model.specs.declared.WriteAnswer.{WriteAnswer}
 use Rattle.model.specs.declared.WriteAnswer.the-variants.{Taken, NotTaken}
 use Rattle.model.specs.Choose.{if_then_else_}
 use Rattle.model.specs.Step.{actionsOf}
-use Rattle.model.specs.Queue.{Turn, passes, stays, carryOut, Stop}
+use Rattle.model.specs.Queue.{Turn, passes, stays, carryOut, Stop, stall}
 use Rattle.answers.specs.declared.Stopped.{Stopped}
-use Rattle.answers.specs.declared.Stopped.the-variants.{Ended, Halted}
+use Rattle.answers.specs.declared.Stopped.the-variants.{Ended, Over, Halted}
 use Rattle.answers.specs.declared.Turned.{Turned}
 use Rattle.answers.specs.declared.Counts.{Counts}
 
@@ -51,9 +52,9 @@ turnedBy u (stays r opcode) = staying r opcode
 abbrev pub begun : ℕ → Counts
 begun left = record { left = left; done = 0; actions = 0; stopped = Ended }
 
--- of a run that did not begin
-abbrev pub halted : Refusal → Counts
-halted why = record { left = 0; done = 0; actions = 0; stopped = Halted why 0 }
+-- of a run that did not begin: more commands wait than the budget
+abbrev pub over : Counts
+over = record { left = 0; done = 0; actions = 0; stopped = Over }
 
 -- after a turn
 abbrev pub countedOn : Counts → Turned → Counts
@@ -67,11 +68,28 @@ countedOn n t =
 -- why they ended, as the model says it
 abbrev pub stopOf : Stopped → Option Stop
 stopOf Ended = none
+stopOf Over = some (record { refusal = BudgetExceeded; opcode = 0 })
 stopOf (Halted r opcode) = some (record { refusal = r; opcode = opcode })
+
+-- a command was refused
+abbrev pub isHalted : Stopped → Bool
+isHalted Ended = false
+isHalted Over = false
+isHalted (Halted r opcode) = true
+
+-- the unit that such a run leaves: a refused command stalls it
+abbrev pub unitLeft : Stopped → ItsState → ItsState
+unitLeft s u = if isHalted s then stall u else u
+
+-- the write is refused
+abbrev pub isRefusal : WriteAnswer → Bool
+isRefusal (Taken done actions) = false
+isRefusal (NotTaken r opcode offset done actions) = true
 
 -- what they answer, with CREADR
 abbrev pub answeringBy : Stopped → ℕ → ℕ → ℕ → WriteAnswer
 answeringBy Ended reader done actions = Taken done actions
+answeringBy Over reader done actions = NotTaken BudgetExceeded 0 reader done actions
 answeringBy (Halted r opcode) reader done actions = NotTaken r opcode reader done actions
 
 abbrev pub answering : Counts → ℕ → WriteAnswer

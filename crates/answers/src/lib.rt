@@ -9,7 +9,7 @@ ghost use mathlib.Core.Path.{_≡_};
 ghost use mathlib.Core.List.{_∷_, []};
 ghost use Prim.Native.Nat.{_+_, _<_, _^_};
 ghost use Rattle.model.specs.Refusal.{numberOf, verdictNumber, readNumbers, writeNumbers, translateNumbers};
-ghost use Rattle.answers.specs.Counting.{staying, passing, countedOn, answering};
+ghost use Rattle.answers.specs.Counting.{staying, passing, countedOn, isHalted, isRefusal, answering};
 
 // The number of a refusal.
 pub fn refusal_number(refusal: Refusal) -> u64
@@ -106,6 +106,25 @@ pub fn translate_numbers(answer: TranslateAnswer) -> [u64; 5]
     }
 }
 
+// Whether a write is refused.
+pub fn is_refused(answer: WriteAnswer) -> bool
+    ensures { λ r. ⌜ r ≡ isRefusal answer ⌝ }
+{
+    match answer {
+        WriteAnswer::Taken {
+            done: _,
+            actions: _,
+        } => false,
+        WriteAnswer::NotTaken {
+            refusal: _,
+            opcode: _,
+            offset: _,
+            done: _,
+            actions: _,
+        } => true,
+    }
+}
+
 // How many actions a write hands over, refused or not.
 pub fn handed(answer: WriteAnswer) -> usize
     ensures { λ r. ⌜ r ≡ writeNumbers answer .actions ⌝ }
@@ -122,9 +141,11 @@ pub fn handed(answer: WriteAnswer) -> usize
     }
 }
 
-// Why a run ended: nothing was left to carry out; or a refusal, with the opcode of the command that it refuses, which is 0 where none was read.
+// Why a run ended: nothing was left to carry out; more commands wait than the budget; or a command was refused, with its opcode, which is 0 where it was
+// not read.
 pub enum Stopped {
     Ended,
+    Over,
     Halted(Refusal, u8),
 }
 
@@ -196,6 +217,17 @@ pub fn counted(n: Counts, t: Turned) -> Counts
     }
 }
 
+// Whether a command was refused.
+pub fn is_halted(stopped: Stopped) -> bool
+    ensures { λ r. ⌜ r ≡ isHalted stopped ⌝ }
+{
+    match stopped {
+        Stopped::Ended => false,
+        Stopped::Over => false,
+        Stopped::Halted(_, _) => true,
+    }
+}
+
 // What a run answers, CREADR being where it stands after it.
 pub fn answer_of(n: Counts, creadr: u64) -> WriteAnswer
     ensures { λ r. ⌜ r ≡ answering n creadr ⌝ }
@@ -203,6 +235,13 @@ pub fn answer_of(n: Counts, creadr: u64) -> WriteAnswer
     let stopped = n.stopped;
     match stopped {
         Stopped::Ended => WriteAnswer::Taken {
+            done: n.done,
+            actions: n.actions,
+        },
+        Stopped::Over => WriteAnswer::NotTaken {
+            refusal: Refusal::BudgetExceeded,
+            opcode: 0,
+            offset: creadr,
             done: n.done,
             actions: n.actions,
         },

@@ -8,6 +8,7 @@ use lib.ListN.{length, getD}
 use lib.Dec.{eqb}
 use lib.Seq.{getD-set-same, getD-set-other}
 use borrow.Author.Tests.{eqb-true, eqb-false}
+use Rattle.model.specs.declared.ItsConfig.{ItsConfig}
 use Rattle.model.specs.declared.ItsRegisters.{ItsRegisters}
 use Rattle.model.specs.declared.ItsState.{ItsState}
 use Rattle.model.specs.declared.ItsAction.{ItsAction}
@@ -19,11 +20,12 @@ use Rattle.model.specs.declared.Verdict.{Verdict}
 use Rattle.model.specs.declared.Verdict.the-variants.{Accepted, Refused}
 use Rattle.model.specs.Choose.{if_then_else_, _or_then_}
 use Rattle.model.specs.With.{withWriter}
+use Rattle.model.specs.Profile.{isStrict}
 use Rattle.model.specs.Config.{queueBase, soundUnit}
 use Rattle.model.specs.Queue.{Window}
 use Rattle.model.specs.Register.{registerAt, valueWritten}
 use Rattle.model.specs.Access.{checkWrite, ifAccepted}
-use Rattle.model.specs.Writing.{refusing, storing, rebasing, going, toCtlr, withCbaser, toCbaser, writerTaken, writerAccepted, toCwriter, baserAfter, withBaser, toBaser, writeRegister, registerWrite}
+use Rattle.model.specs.Writing.{refusing, storing, rebasing, going, toCtlr, clearing, withCbaser, toCbaser, retries, writerAccepted, writerOf, toCwriter, baserAfter, withBaser, toBaser, writeRegister, registerWrite}
 use Rattle.model.specs.Entry.{write}
 use Rattle.model.proofs.Cases.{cases}
 use Rattle.arm_agreement.specs.Registers.{BASER}
@@ -35,7 +37,7 @@ use Rattle.arm_agreement.proofs.EveryWrite.{every-write}
 unchanged : (v : ℕ) → ReadOnlyBASER v v
 unchanged v = record { Type-stays = refl; Entry-Size-stays = refl }
 
-module _ (s : ItsRegisters) (m : ℕ) (there : m < length (s .basers)) where
+module _ (k : ItsConfig) (s : ItsRegisters) (m : ℕ) (there : m < length (s .basers)) where
   abbrev of-BASER : ItsRegisters → ℕ
   of-BASER r = getD (r .basers) m 0
 
@@ -59,20 +61,22 @@ module _ (s : ItsRegisters) (m : ℕ) (there : m < length (s .basers)) where
   checked true x y f g = g
   checked false x y f g = f
 
-  stored-kept : (value : ℕ) (n : Register) → Keeps (writeRegister s value n)
+  stored-kept : (value : ℕ) (n : Register) → Keeps (writeRegister k s value n)
   unfolding toCtlr toCbaser toCwriter toBaser
   stored-kept value Ctlr = unchanged _
   stored-kept value Iidr = unchanged _
   stored-kept value Typer = unchanged _
   stored-kept value Cbaser =
       either (s .enabled) (storing s) _ (unchanged _)
-      (checked (not (eqb (queueBase value) 0)) (refusing s 0 BaseZero) (rebasing (withCbaser s value)) (unchanged _) (unchanged _))
-  stored-kept value Cwriter = checked (writerAccepted s (writerTaken s value)) _ (going (withWriter s (writerTaken s value))) (unchanged _) (unchanged _)
+      (checked (not (eqb (queueBase value) 0)) (refusing s 0 BaseZero) (rebasing (clearing (isStrict (k .profile)) (withCbaser s value)))
+      (unchanged _) (unchanged _))
+  stored-kept value Cwriter =
+      checked (writerAccepted s (writerOf k s value)) _ (going (clearing (retries k value) (withWriter s (writerOf k s value)))) (unchanged _) (unchanged _)
   stored-kept value Creadr = unchanged _
   stored-kept value (Baser n) = either (s .enabled) (storing s) (storing (withBaser s n value)) (unchanged _) (table-kept n value)
   stored-kept value Reserved = unchanged _
 
-  by-verdict : (v : Verdict) (value : ℕ) (n : Register) → Keeps (ifAccepted v (writeRegister s value n) (refusing s 0))
+  by-verdict : (v : Verdict) (value : ℕ) (n : Register) → Keeps (ifAccepted v (writeRegister k s value n) (refusing s 0))
   by-verdict Accepted value n = stored-kept value n
   by-verdict (Refused r) value n = unchanged _
 
@@ -81,5 +85,5 @@ pub BASER-read-only : (w : Window) (row : List ItsAction) (u : ItsState) → sou
 unfolding registerWrite
 BASER-read-only w row u sound offset width value m there =
     rw (ap (λ r. r .basers) (every-write w row u offset width value sound .registers))
-    (by-verdict (u .registers) m there (checkWrite (u .config) (u .registers) (length row) offset width)
+    (by-verdict (u .config) (u .registers) m there (checkWrite (u .config) (u .registers) (length row) offset width)
     (valueWritten (u .config) (u .registers) offset width value (registerAt offset)) (registerAt offset))

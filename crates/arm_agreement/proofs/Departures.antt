@@ -169,14 +169,15 @@ pub S01-departs : (takes (unit (devices 32)) (MAPD 32 3 0 true) ≡ false) × (n
 unfolding shown
 S01-departs = (refl, refl)
 
--- The registers. R13, R39: the unit is enabled and has stopped; Quiescent reads 1, and Stalled 0
+-- The registers. R13, R39: the unit is enabled and has stopped; Quiescent reads 1, and Stalled, as always in base, 0
 abbrev stuck : ItsState
 stuck = withRegisters (unit []) (withRing (withEnabled (unit [] .registers) true) 0x8000000040000000 0 32)
 
 pub R13-R39-depart : (stopped stuck ≡ true) × (CREADR·Stalled of held stuck CREADR ≡ 0) × (CTLR·Quiescent of held stuck CTLR ≡ 1)
+unfolding shown
 R13-R39-depart = (refl, refl, refl)
 
--- R29: a write of CBASER puts CWRITER back to 0; R30: at address zero it is refused; R14: so is CWRITER with Retry
+-- R29: a write of CBASER puts CWRITER back to 0; R30: at address zero it is refused; R14: so is, in base, CWRITER with Retry
 abbrev ready : ItsState
 ready = writing (writing (unit []) GITS-CBASER 0x8000000040000000 .unit) GITS-CWRITER 32 .unit
 

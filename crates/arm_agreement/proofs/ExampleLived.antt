@@ -62,6 +62,7 @@ devices-under =
       };
       R46-tables-stay = inl refl;
       ring = record { R27-valid = λ e. (cc); R28-aligned = λ e. refl };
+      R11-not-stalled = λ e. refl;
       decodable = λ m l. absurd (omega arith);
       commands = no-command;
     }
@@ -78,6 +79,7 @@ tables-under =
       };
       R46-tables-stay = inl refl;
       ring = record { R27-valid = λ e. (cc); R28-aligned = λ e. refl };
+      R11-not-stalled = λ e. refl;
       decodable = λ m l. absurd (omega arith);
       commands = no-command;
     }
@@ -94,6 +96,7 @@ base-under =
       };
       R46-tables-stay = inr refl;
       ring = record { R27-valid = λ e. (cc); R28-aligned = λ e. refl };
+      R11-not-stalled = λ e. refl;
       decodable = λ m l. absurd (omega arith);
       commands = no-command;
     }
@@ -110,6 +113,7 @@ enable-under =
       };
       R46-tables-stay = inr refl;
       ring = record { R27-valid = λ e. refl; R28-aligned = λ e. refl };
+      R11-not-stalled = λ e. refl;
       decodable = λ m l. absurd (omega arith);
       commands = no-command;
     }
@@ -137,6 +141,7 @@ run-under = record {
   };
   R46-tables-stay = inr refl;
   ring = record { R27-valid = λ e. refl; R28-aligned = λ e. refl };
+  R11-not-stalled = λ e. refl;
   decodable = each-decodable;
   commands = mapped;
 }

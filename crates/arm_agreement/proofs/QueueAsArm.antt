@@ -144,5 +144,10 @@ module _ (t : Tables) (w : Window) (row : List ItsAction) (u : ItsState) (offset
       let k = every-write w row u offset width value sound in
       let h = rw (passed-as w (u .registers) count (c .decodable)) at (k .carried) in
       let f = fetched-all (c .ring) (k .disabled) in
-      let l = led-to t (withRegisters u stored) kept passed (unitBy done-write) (k .handed) (rw f h) (c .commands) in
-      record { mappings = l .mappings; kept = l .keeps; all-of-them = λ done actions t runs on. k .taken done actions t runs on (c .ring .R27-valid on) }
+      let l = led-to t (withRegisters u stored) kept passed (k .led) (k .handed) (rw f h) (c .commands) in
+      let same : armOf (unitBy done-write) ≡ armOf (k .led) = ap armOf (k .unit) in
+      record {
+        mappings = same ∙ l .mappings;
+        kept = rw same (l .keeps);
+        all-of-them = λ done actions t runs on. k .taken done actions t runs on (c .ring .R27-valid on) (c .R11-not-stalled on);
+      }

@@ -4,7 +4,7 @@
 use Prim.Native.Nat.{ℕ, zero, suc, _+_, _-_, _*_, _%_, _≤_, _<_, _^_}
 use native.Mathlib.Omega.{arith}
 use mathlib.Core.Path.{_≡_, refl, sym, ap, _∙_}
-use mathlib.Core.Bool.{true, false, _&&_, not}
+use mathlib.Core.Bool.{Bool, true, false, _&&_, _||_, not}
 use lib.Dec.{leb, eqb}
 use lib.Pow.{pow-mono}
 use borrow.Author.Tests.{leb-true, leb-false, ltb-true, le-leb, lt-leb, eqb-true}
@@ -14,11 +14,11 @@ use Rattle.model.specs.declared.ItsState.{ItsState}
 use Rattle.model.specs.declared.ReadAnswer.the-variants.{Value}
 use Rattle.model.specs.Arm.{_of_, CTLR·Enabled, command-size, of-devices, of-collections, TYPER·Devbits, TYPER·ID-bits}
 use Rattle.model.specs.Config.{queueBase, queueSize, isQueueOffset, sizesIn01, soundConfig, soundRing, soundUnit, freshUnit}
-use Rattle.model.specs.Register.{bitsNeeded, typerValue, readPart, readOf}
+use Rattle.model.specs.Register.{bitsNeeded, typerValue, isStalled, readPart, readOf}
 use Rattle.model.specs.Access.{checkRead}
 use Rattle.model.specs.Entry.{readFrom, read}
 use Rattle.model.proofs.Cases.{cases, never, and-left, and-right}
-use Rattle.model.proofs.Profiles.{sizes-of}
+use Rattle.model.proofs.Profiles.{sizes-of, creadr-plain}
 use Rattle.arm_agreement.specs.Registers.{Reg, CTLR, IIDR, TYPER, CBASER, CWRITER, CREADR, BASER, Piece, whole, low, high, has, offset-of, width-of, part-of}
 use Rattle.arm_agreement.specs.Fields.{one-bit, ShowsCTLR, ShowsIIDR, ShowsTYPER, ShowsCWRITER, ShowsCREADR, ShowsBASER}
 use Rattle.arm_agreement.specs.Conditions.{ReadsCTLR, ReadsTYPER, ReadsCREADR}
@@ -138,6 +138,11 @@ module _ (u : ItsState) where
   pub numbers-announced : (b : ℕ) → ReadsTYPER u b → (2 ^ (TYPER·Devbits of held u TYPER + 1) ≡ 65536) × (2 ^ (TYPER·ID-bits of held u TYPER + 1) ≡ 2 ^ (b + 1))
   numbers-announced b c = let s = TYPER-as-arm b c in (ap (λ n. 2 ^ n) (s .Devbits), ap (λ n. 2 ^ n) (s .ID-bits))
 
+-- where neither of two tests holds, the first does not
+or-left : (a b : Bool) → (a || b) ≡ false → a ≡ false
+or-left true b h = never true refl h
+or-left false b h = refl
+
 -- the places of a sound ring: multiples of 32 below 2^20
 ring-place : (cbaser place : ℕ) → isQueueOffset cbaser place ≡ true → (place % 32 ≡ 0) × (place < 1048576)
 ring-place cbaser place h = (
@@ -170,7 +175,9 @@ module _ (u : ItsState) where
   pub CREADR-as-arm : ReadsCREADR u → ShowsCREADR (held u CREADR) (u .registers .creadr) (stopped u)
   CREADR-as-arm c =
       let (p, q) = places (c .S12-sound) .0 in
-      record { Stalled = rw (c .R13-not-stopped) (omega arith); Offset = omega arith }
+      let clear = or-left (isStalled (u .config) (u .registers)) _ (c .R13-not-stopped) in
+      let plain : held u CREADR ≡ u .registers .creadr = creadr-plain (u .config) (u .registers) clear in
+      record { Stalled = rw (c .R13-not-stopped, plain) (omega arith); Offset = rw plain (omega arith) }
 
 -- BASER 0 is of devices and BASER 1 of collections, with entries of 8 bytes, and the other six are of nothing. Of a fresh unit: no write changes
 -- these fields (BaserReadOnly.antt)

@@ -4,26 +4,29 @@
 use Prim.Native.Nat.{ℕ, zero, suc, _+_, _*_, _/_, _%_, _<_}
 use native.Mathlib.Omega.{arith}
 use mathlib.Core.Path.{_≡_, refl, sym, ap, _∙_}
-use mathlib.Core.Bool.{true, false}
+use mathlib.Core.Bool.{Bool, true, false, _&&_, not}
 use mathlib.Core.List.{List}
 use lib.ListN.{getD}
 use lib.Dec.{eqb, ltb}
 use lib.Pow.{mod-pow-add}
 use lib.Seq.{getD-set-same, getD-set-other}
 use borrow.Author.Tests.{eqb-true, eqb-false, eq-eqb, lt-ltb, ltb-true}
+use Rattle.model.specs.declared.ItsConfig.{ItsConfig}
 use Rattle.model.specs.declared.ItsRegisters.{ItsRegisters}
 use Rattle.model.specs.declared.ItsState.{ItsState}
 use Rattle.model.specs.declared.ItsAction.{ItsAction}
 use Rattle.model.specs.Arm.{_of_, _in-place_, _holding_, bits, low-half, high-half, CTLR·Enabled, CWRITER·Retry, CWRITER·Offset, command-size}
 use Rattle.model.specs.Config.{queueSize}
-use Rattle.model.specs.With.{withRegisters, withReader}
+use Rattle.model.specs.With.{withRegisters, withStalled, withReader}
+use Rattle.model.specs.Profile.{isStrict}
 use Rattle.model.specs.Queue.{Window}
-use Rattle.model.specs.Register.{ctlrValue, merged, valueWritten}
+use Rattle.model.specs.Register.{ctlrValue, creadrValue, merged, valueWritten}
 use Rattle.model.specs.Access.{checkWrite}
-use Rattle.model.specs.Writing.{enables, toCtlr, withCbaser, toCbaser, writerTaken, writerAccepted, toCwriter, withBaser, toBaser, writeRegister, registerWrite}
+use Rattle.model.specs.Writing.{enables, toCtlr, clearing, withCbaser, toCbaser, offered, writerAccepted, writerOf, toCwriter, withBaser, toBaser, writeRegister, registerWrite}
 use Rattle.model.specs.Entry.{Outcome, stores, write}
 use Rattle.model.proofs.Cases.{cases, never, both}
 use Rattle.model.proofs.ArmFacts.{writer-is-offset}
+use Rattle.model.proofs.Profiles.{creadr-plain}
 use Rattle.arm_agreement.specs.Registers.{Reg, CTLR, IIDR, TYPER, CBASER, CWRITER, CREADR, BASER, Piece, whole, low, high, has, offset-of, width-of, Halves, Merges}
 use Rattle.arm_agreement.specs.Fields.{one-bit}
 use Rattle.arm_agreement.specs.Writes.{StoresCTLR, StoresCBASER, StoresCWRITER, StoresBASER}
@@ -91,6 +94,16 @@ low-20 v a = omega arith
 offset-again : (v : ℕ) → CWRITER·Offset of (bits 19 0 of v) ≡ CWRITER·Offset of v
 offset-again v = omega arith
 
+-- without Retry the value is offered whole in both profiles
+no-Retry : (k : ItsConfig) (v : ℕ) → CWRITER·Retry of v ≡ 0 → offered k v ≡ v
+unfolding offered
+no-Retry k v n = cases (isStrict (k .profile)) (λ h. rw h (omega (arith, n))) (λ h. rw h)
+
+-- Stalled, where strict has cleared it: base does not show it, and strict has it no more
+cleared : (strict stalled : Bool) → (strict && (not strict && stalled)) ≡ false
+cleared true stalled = refl
+cleared false stalled = refl
+
 module _ (w : Window) (row : List ItsAction) (u : ItsState) (c : Writable u row) where
   -- a write by Arm's register and part
   abbrev writing : Reg → Piece → ℕ → Outcome
@@ -98,7 +111,7 @@ module _ (w : Window) (row : List ItsAction) (u : ItsState) (c : Writable u row)
 
   -- what it does to the registers
   goes : (r : Reg) (p : Piece) (value : ℕ) → has r p ≡ true →
-      stores row u (offset-of r p) (width-of r p) value ≡ writeRegister (u .registers) (stored-value u r p value) (asRegister r)
+      stores row u (offset-of r p) (width-of r p) value ≡ writeRegister (u .config) (u .registers) (stored-value u r p value) (asRegister r)
   unfolding registerWrite checkWrite
   goes r p value h =
       let t = is-there r p h in
@@ -113,12 +126,12 @@ module _ (w : Window) (row : List ItsAction) (u : ItsState) (c : Writable u row)
   unfolding write
   read-only-as-arm p value = (rw (goes TYPER p value refl), rw (goes IIDR whole value refl), rw (goes CREADR p value refl))
 
-  -- what is stored in each register but CREADR
-  kept-by : {A : Type 0} (f : ItsRegisters → A) → ((s : ItsRegisters) (n : ℕ) → f (withReader s n) ≡ f s) → (r : Reg) (p : Piece) (value : ℕ) → has r p ≡ true →
-      f (unit-of (writing r p value) .registers) ≡ f (writeRegister (u .registers) (stored-value u r p value) (asRegister r) .registers)
+  -- what is stored in each register but CREADR, whose Offset goes on and whose Stalled may be set
+  kept-by : {A : Type 0} (f : ItsRegisters → A) → ((s : ItsRegisters) (n : ℕ) (b : Bool) → f (withStalled (withReader s n) b) ≡ f s) → (r : Reg) (p : Piece) (value : ℕ) → has r p ≡ true →
+      f (unit-of (writing r p value) .registers) ≡ f (writeRegister (u .config) (u .registers) (stored-value u r p value) (asRegister r) .registers)
   kept-by f same r p value h =
       let k = every-write w row u (offset-of r p) (width-of r p) value (c .S12-sound) in
-      ap f (k .registers) ∙ (same _ _ ∙ ap (λ s. f (s .registers)) (goes r p value h))
+      ap f (k .registers) ∙ (same _ _ _ ∙ ap (λ s. f (s .registers)) (goes r p value h))
 
   -- GITS_CTLR. R40: of the other fields none is kept
   pub CTLR-stored : (value : ℕ) → StoresCTLR (held u) (held (unit-of (writing CTLR whole value))) value
@@ -126,22 +139,32 @@ module _ (w : Window) (row : List ItsAction) (u : ItsState) (c : Writable u row)
   CTLR-stored value =
       let v = unit-of (writing CTLR whole value) in
       record {
-        Enabled = CTLR-enabled v ∙ (ap one-bit (kept-by (λ s. s .enabled) (λ s n. refl) CTLR whole value refl) ∙ as-bit value);
-        same-CBASER = kept-by (λ s. s .cbaser) (λ s n. refl) CTLR whole value refl;
-        same-CWRITER = kept-by (λ s. s .cwriter) (λ s n. refl) CTLR whole value refl;
-        same-BASER = λ n. ap (λ l. getD l n 0) (kept-by (λ s. s .basers) (λ s n. refl) CTLR whole value refl);
+        Enabled = CTLR-enabled v ∙ (ap one-bit (kept-by (λ s. s .enabled) (λ s n b. refl) CTLR whole value refl) ∙ as-bit value);
+        same-CBASER = kept-by (λ s. s .cbaser) (λ s n b. refl) CTLR whole value refl;
+        same-CWRITER = kept-by (λ s. s .cwriter) (λ s n b. refl) CTLR whole value refl;
+        same-BASER = λ n. ap (λ l. getD l n 0) (kept-by (λ s. s .basers) (λ s n b. refl) CTLR whole value refl);
       }
 
   -- GITS_CBASER
   module _ (p : Piece) (value : ℕ) (k : StoresBase u (stored-value u CBASER p value)) where
-    base-stored : unit-of (writing CBASER p value) ≡ withRegisters u (withCbaser (u .registers) (stored-value u CBASER p value))
+    -- in strict Stalled is cleared
+    abbrev new-base : ItsRegisters
+    new-base = clearing (isStrict (u .config .profile)) (withCbaser (u .registers) (stored-value u CBASER p value))
+
+    base-stored : unit-of (writing CBASER p value) ≡ withRegisters u new-base
     unfolding write toCbaser
     base-stored = rw (goes CBASER p value refl, k .R32-disabled, k .R30-base)
 
     pub CBASER-stored : StoresCBASER (held u) (held (unit-of (writing CBASER p value))) (stored-value u CBASER p value)
     CBASER-stored =
         rw base-stored
-        (record { stored = refl; CREADR-0 = refl; same-CWRITER = sym (k .R29-writer-at-0); same-CTLR = refl; same-BASER = λ n. refl })
+        (record {
+          stored = refl;
+          CREADR-0 = creadr-plain (u .config) new-base (cleared (isStrict (u .config .profile)) (u .registers .stalled));
+          same-CWRITER = sym (k .R29-writer-at-0);
+          same-CTLR = refl;
+          same-BASER = λ n. refl;
+        })
 
     -- the mappings stay
     pub CBASER-mappings : armOf (unit-of (writing CBASER p value)) ≡ armOf u
@@ -157,6 +180,7 @@ module _ (w : Window) (row : List ItsAction) (u : ItsState) (c : Writable u row)
     table-stored = rw (goes (BASER n) p value one-of-them, k .R32-disabled)
 
     pub BASER-stored : StoresBASER n (held u) (held (unit-of (writing (BASER n) p value))) (stored-value u (BASER n) p value)
+    unfolding creadrValue
     BASER-stored =
         let b = ltb-true n 8 one-of-them in
         rw (table-stored)
@@ -178,10 +202,10 @@ module _ (w : Window) (row : List ItsAction) (u : ItsState) (c : Writable u row)
     abbrev new : ℕ
     new = stored-value u CWRITER p value
 
-    taken : writerTaken (u .registers) new ≡ bits 19 0 of new
-    taken = rw (k .R34-base)
+    taken : writerOf (u .config) (u .registers) new ≡ bits 19 0 of new
+    taken = rw (no-Retry (u .config) new (k .R14-no-Retry), k .R34-base)
 
-    pub CWRITER-accepted : writerAccepted (u .registers) (writerTaken (u .registers) new) ≡ true
+    pub CWRITER-accepted : writerAccepted (u .registers) (writerOf (u .config) (u .registers) new) ≡ true
     unfolding writerAccepted
     CWRITER-accepted =
         let a = low-20 new (low-5 new (k .R14-no-Retry) (k .R33-no-reserved)) in
@@ -193,8 +217,8 @@ module _ (w : Window) (row : List ItsAction) (u : ItsState) (c : Writable u row)
     unfolding toCwriter
     CWRITER-stored =
         record {
-          Offset = rw (kept-by (λ s. s .cwriter) (λ s n. refl) CWRITER p value refl, CWRITER-accepted, taken) (offset-again new);
-          same-CTLR = ap ctlrValue (kept-by (λ s. s .enabled) (λ s n. refl) CWRITER p value refl) ∙ rw CWRITER-accepted;
-          same-CBASER = kept-by (λ s. s .cbaser) (λ s n. refl) CWRITER p value refl ∙ rw CWRITER-accepted;
-          same-BASER = λ n. ap (λ l. getD l n 0) (kept-by (λ s. s .basers) (λ s n. refl) CWRITER p value refl) ∙ rw CWRITER-accepted;
+          Offset = rw (kept-by (λ s. s .cwriter) (λ s n b. refl) CWRITER p value refl, CWRITER-accepted, taken) (offset-again new);
+          same-CTLR = ap ctlrValue (kept-by (λ s. s .enabled) (λ s n b. refl) CWRITER p value refl) ∙ rw CWRITER-accepted;
+          same-CBASER = kept-by (λ s. s .cbaser) (λ s n b. refl) CWRITER p value refl ∙ rw CWRITER-accepted;
+          same-BASER = λ n. ap (λ l. getD l n 0) (kept-by (λ s. s .basers) (λ s n b. refl) CWRITER p value refl) ∙ rw CWRITER-accepted;
         }

@@ -157,7 +157,7 @@ pub record StoresTable (u : ItsState) (n value : ℕ) : Type 0 where
 pub record StoresWriter (u : ItsState) (value : ℕ) : Type 0 where
   -- R34: before CBASER is written
   pub R34-base : eqb (u .registers .cbaser) 0 ≡ false
-  -- R14: Retry is not known
+  -- R14: in base Retry is refused; in strict it is taken, and the conditions here are those of base
   pub R14-no-Retry : CWRITER·Retry of value ≡ 0
   -- R33: with reserved bits, or outside the ring, it is refused
   pub R33-no-reserved : bits 4 1 of value ≡ 0
@@ -188,7 +188,7 @@ pub record ReadsTYPER (u : ItsState) (b : ℕ) : Type 0 where
 -- of GITS_CREADR
 pub record ReadsCREADR (u : ItsState) : Type 0 where
   pub S12-sound : soundUnit u ≡ true
-  -- R13: Stalled is never shown
+  -- R13: in base Stalled is never shown; in strict it is, and the conditions here are those of base
   pub R13-not-stopped : stopped u ≡ false
 
 -- Of the ring: what a write stores in CTLR.Enabled, and CBASER.

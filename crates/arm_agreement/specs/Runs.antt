@@ -2,7 +2,7 @@
 -- Assumes nothing.
 use Prim.Native.Nat.{ℕ, _<_}
 use mathlib.Core.Path.{_≡_}
-use mathlib.Core.Bool.{Bool, true}
+use mathlib.Core.Bool.{Bool, true, false}
 use mathlib.Core.Logic.{_⊎_}
 use mathlib.Core.List.{List, [], _∷_}
 use mathlib.Core.Option.{Option, none, some}
@@ -20,6 +20,7 @@ use Rattle.model.specs.Keys.{delivery}
 use Rattle.model.specs.Refusal.{writeNumbers}
 use Rattle.model.specs.With.{withRegisters}
 use Rattle.model.specs.Queue.{Window, commandAt, carryOut}
+use Rattle.model.specs.Register.{isStalled}
 use Rattle.model.specs.Entry.{configure, Outcome, stores, write}
 use Rattle.arm_agreement.specs.Commands.{ArmCommand}
 use Rattle.arm_agreement.specs.Mappings.{Mappings, nothing, Target}
@@ -81,6 +82,8 @@ module _ (t : Tables) (w : Window) (row : List ItsAction) (u : ItsState) (offset
     -- R46: with other tables the unit keeps its mappings; by Arm they are those of the new tables. So a table is given before anything is mapped
     pub R46-tables-stay : (armOf u ≡ nothing) ⊎ (stored .basers ≡ u .registers .basers)
     pub ring : ARing (stored .enabled) (u .registers .cbaser)
+    -- R11: in strict a command that was refused has stopped the ring (02, A4); in base this always holds
+    pub R11-not-stalled : stored .enabled ≡ true → isStalled (u .config) stored ≡ false
     pub decodable : AllDecodable w (u .registers) (doneBy after-it)
     pub commands : EachUnder t (withRegisters u stored) (passed-by w row u offset width value)
 

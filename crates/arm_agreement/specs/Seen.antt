@@ -1,7 +1,7 @@
 -- The seam: the unit's commands and mappings, seen as Arm's. What the unit numbers stands here, and nothing of what Arm says.
 -- Assumes nothing.
 use Prim.Native.Nat.{ℕ, _+_}
-use mathlib.Core.Bool.{Bool, false, _&&_, not}
+use mathlib.Core.Bool.{Bool, false, _&&_, _||_, not}
 use mathlib.Core.Option.{Option, none, some}
 use lib.Dec.{eqb}
 use Rattle.model.specs.declared.ItsDeviceId.{ItsDeviceId}
@@ -21,7 +21,7 @@ use Rattle.model.specs.Arm.{_of_, BASER·Valid}
 use Rattle.model.specs.Choose.{whenFound, ifFound}
 use Rattle.model.specs.Config.{listed}
 use Rattle.model.specs.Step.{deviceOf, collectionOf, translationOf, accepts, stepped}
-use Rattle.model.specs.Register.{typerValue, valueOf}
+use Rattle.model.specs.Register.{typerValue, isStalled, valueOf}
 use Rattle.arm_agreement.specs.Registers.{Reg, CTLR, IIDR, TYPER, CBASER, CWRITER, CREADR, BASER}
 use Rattle.arm_agreement.specs.Commands.{ArmCommand, MAPD, MAPC, MAPTI, MAPI, MOVI, INT, CLEAR, DISCARD, INV, INVALL, SYNC, MOVALL}
 use Rattle.arm_agreement.specs.Mappings.{interrupt, Mappings, Announced}
@@ -101,9 +101,9 @@ held u r = valueOf (u .config) (u .registers) (asRegister r)
 abbrev pub tables-given : ItsState → Bool
 tables-given u = eqb (BASER·Valid of held u (BASER 0)) 1 && eqb (BASER·Valid of held u (BASER 1)) 1
 
--- the unit has stopped: it is enabled, and commands wait
+-- the unit has stopped: it is stalled, which is only so in strict, or it is enabled, and commands wait
 abbrev pub stopped : ItsState → Bool
-stopped u = u .registers .enabled && not (eqb (u .registers .creadr) (u .registers .cwriter))
+stopped u = isStalled (u .config) (u .registers) || (u .registers .enabled && not (eqb (u .registers .creadr) (u .registers .cwriter)))
 
 -- The tables that the driver offers in BASER: which numbers have room in them. The unit does not look (R20, R22, R23), so they can be any.
 pub record Tables : Type 0 where

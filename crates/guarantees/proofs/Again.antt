@@ -1,27 +1,21 @@
 -- A LATER WRITE TRIES THE FAILING COMMAND AGAIN: a write that runs its queue begins with the command on which CREADR stands.
 -- Assumes nothing.
-use Prim.Native.Nat.{ℕ, suc, _+_, _-_}
+use Prim.Native.Nat.{ℕ, suc, _-_}
 use native.Mathlib.Omega.{arith}
 use mathlib.Core.Path.{_≡_, refl, sym, ap, ap₂, _∙_}
-use mathlib.Core.Bool.{true, false}
+use mathlib.Core.Bool.{true}
 use mathlib.Core.List.{List, _++_}
-use mathlib.Core.Option.{Option, none, some}
 use Rattle.model.specs.declared.ItsRegisters.{ItsRegisters}
 use Rattle.model.specs.declared.ItsState.{ItsState}
 use Rattle.model.specs.declared.ItsAction.{ItsAction}
 use Rattle.model.specs.declared.Command.{Command}
-use Rattle.model.specs.declared.Command.the-variants.{Mapd, Mapc, Mapti, Mapi, Movi, Int, Clear, Discard, Inv, Invall, Sync}
-use Rattle.model.specs.declared.Decoded.{Decoded}
-use Rattle.model.specs.declared.Decoded.the-variants.{Known, Unknown}
-use Rattle.model.specs.declared.Refusal.the-variants.{NotInWindow}
 use Rattle.model.specs.declared.RegisterWrite.{RegisterWrite}
+use Rattle.model.specs.declared.WriteAnswer.the-variants.{NotTaken}
 use Rattle.model.specs.declared.Written.{Written}
-use Rattle.model.specs.Choose.{ifFound, listOf}
-use Rattle.model.specs.Config.{queueBase}
-use Rattle.model.specs.Decode.{opcodeOf, decode}
-use Rattle.model.specs.Step.{deliveryIn, checkMapping, check}
+use Rattle.model.specs.Choose.{listOf}
 use Rattle.model.specs.With.{withRegisters}
-use Rattle.model.specs.Queue.{Window, commandAt, commandAddress, waiting, Turn, passes, stays, judged, turnOn, turn, carryOut, Ran, goOn, run, mayRun}
+use Rattle.model.specs.Refusal.{writeNumbers}
+use Rattle.model.specs.Queue.{Window, waiting, Turn, passes, stays, turn, carryOut, Ran, goOn, run, stall, halting, mayRun}
 use Rattle.model.specs.Writing.{going}
 use Rattle.model.specs.Entry.{Outcome, afterRun, stores}
 use Rattle.model.specs.Passed.{commandsPassed}
@@ -29,44 +23,11 @@ use Rattle.model.proofs.Cases.{never}
 use Rattle.model.proofs.Ring.{reader-below, past-below}
 use Rattle.model.proofs.Turns.{passing, carried-registers, passed-first, passed-same}
 use Rattle.model.proofs.Runs.{run-keeps}
-use Rattle.model.proofs.Answers.{done-of}
+use Rattle.model.proofs.Answers.{done-of, halted-unit, halted-answer}
 use Rattle.model.proofs.Ways.{Stored, Way, checked, no-base, no-writer, quiet, based, off, over, ran, way}
 use Rattle.its.specs.Contracts.{Writes}
 use Rattle.guarantees.specs.Retries.{Tries, BeginsWith, TriesAgain}
-
--- The command at CREADR has the same turn whatever the other registers are.
-module _ (u : ItsState) (s : ItsRegisters) where
-  check-same : (x : Command) → check (withRegisters u s) x ≡ check u x
-  unfolding checkMapping deliveryIn
-  check-same (Mapd d bits true) = refl
-  check-same (Mapd d bits false) = refl
-  check-same (Mapc c p true) = refl
-  check-same (Mapc c p false) = refl
-  check-same (Mapti d e l c) = refl
-  check-same (Mapi d e c) = refl
-  check-same (Movi d e c) = refl
-  check-same (Int d e) = refl
-  check-same (Clear d e) = refl
-  check-same (Discard d e) = refl
-  check-same (Inv d e) = refl
-  check-same (Invall c) = refl
-  check-same Sync = refl
-
-  decoded-same : (opcode : ℕ) (k : Decoded) → turnOn (withRegisters u s) opcode k ≡ turnOn u opcode k
-  decoded-same opcode (Known x) = ap (λ v. judged v x opcode) (check-same x)
-  decoded-same opcode (Unknown n) = refl
-
-  words-same : (o : Option (List ℕ)) →
-      ifFound o (λ ws. turnOn (withRegisters u s) (opcodeOf ws) (decode ws)) (stays NotInWindow 0)
-      ≡ ifFound o (λ ws. turnOn u (opcodeOf ws) (decode ws)) (stays NotInWindow 0)
-  words-same none = refl
-  words-same (some ws) = decoded-same (opcodeOf ws) (decode ws)
-
-  turn-same : (w : Window) → s .cbaser ≡ u .registers .cbaser → s .creadr ≡ u .registers .creadr → turn w (withRegisters u s) ≡ turn w u
-  unfolding turn
-  turn-same w base reader =
-      words-same (commandAt w (commandAddress s (s .creadr)))
-      ∙ ap₂ (λ b a. ifFound (commandAt w (queueBase b + a)) (λ ws. turnOn u (opcodeOf ws) (decode ws)) (stays NotInWindow 0)) base reader
+use Rattle.guarantees.proofs.SameTurn.{turn-same}
 
 module _ (w : Window) (row : List ItsAction) (u : ItsState) (offset width value : ℕ) where
   -- The run of one command and m more, by the turn of the first.
@@ -74,7 +35,7 @@ module _ (w : Window) (row : List ItsAction) (u : ItsState) (offset width value 
     abbrev after : Turn → Ran
     after t = goOn (withRegisters u s) t (run w m)
 
-    first-accepted : (x : Command) → turn w (withRegisters u s) ≡ passes x → BeginsWith w u (going s) (afterRun (after (passes x)) row .written) x
+    first-accepted : (x : Command) → turn w (withRegisters u s) ≡ passes x → BeginsWith w u (going s) (afterRun (halting (after (passes x))) row .written) x
     first-accepted x t =
         let v = carryOut (withRegisters u s) x in
         let q = run w m v in
@@ -85,17 +46,22 @@ module _ (w : Window) (row : List ItsAction) (u : ItsState) (offset width value 
           later = commandsPassed w (v .registers) (q .done);
           handed = q .actions;
           first =
-              ap (commandsPassed w (u .registers)) (done-of (after (passes x)) (q .stopped))
+              ap (λ a. commandsPassed w (u .registers) (writeNumbers a .done)) (halted-answer (after (passes x)))
+              ∙ (ap (commandsPassed w (u .registers)) (done-of (after (passes x)) (q .stopped))
               ∙ (sym (passed-same w s (u .registers) (g .base) (g .reader) (suc (q .done)))
-              ∙ (passed-first w s (q .done) ∙ ap₂ (λ l o. commandsPassed w l (q .done) ++ listOf o) (sym past) (p .shown)));
+              ∙ (passed-first w s (q .done) ∙ ap₂ (λ l o. commandsPassed w l (q .done) ++ listOf o) (sym past) (p .shown))));
+          led-to = q .unit;
           follow = k .carried;
+          unit-left = halted-unit (after (passes x));
         }
 
-    by-turn : (t : Turn) → turn w (withRegisters u s) ≡ t → TriesAgain w row u (going s) (afterRun (after t) row .written) (afterRun (after t) row .row)
+    by-turn : (t : Turn) → turn w (withRegisters u s) ≡ t → TriesAgain w row u (going s) (afterRun (halting (after t)) row .written) (afterRun (halting (after t)) row .row)
+    unfolding stall
     by-turn t e =
         let same : turn w u ≡ t = sym (turn-same u s w (g .base) (g .reader)) ∙ e in
         record {
-          refuses = λ why opcode h. let it : t ≡ stays why opcode = sym same ∙ h in rw (it, g .reader) (refl, refl);
+          refuses = λ why opcode h. let it : t ≡ stays why opcode = sym same ∙ h in
+              rw it (ap (λ c. record { unit = stall (withRegisters u s); answer = NotTaken why opcode c 0 0 }) (g .reader), refl);
           accepts = λ x h. let it : t ≡ passes x = sym same ∙ h in rw it (first-accepted x (e ∙ it));
         }
 

@@ -16,6 +16,7 @@ use Rattle.guarantees.proofs.Leaves.{read-leaves, translate-leaves}
 use Rattle.guarantees.proofs.Unsound.{unsound-answers-1, sound-never-1, no-unit-answers-1, refused-configuration}
 use Rattle.guarantees.proofs.Again.{tries-again}
 use Rattle.guarantees.proofs.Later.{tried-later}
+use Rattle.guarantees.proofs.Stalled.{stalled-stores, stalled-kept, stalled-exactly, calls-stalled-exactly, stalled-shown}
 use Rattle.guarantees.proofs.Profiles.{base-as-01, base-led, base-configured, base-call-configured, profiles-alike, verdicts-alike, calls-begin, calls-go-on}
 use Rattle.guarantees.proofs.Traces.{base-traces, traces-alike}
 use Rattle.guarantees.proofs.Holding.{held-stores, no-such-profile, call-no-such-profile, call-no-such-setting, another-layout, layout-before}
@@ -35,6 +36,11 @@ theorems =
       base-call-configured = base-call-configured;
       base-traces = base-traces;
       held-stores = held-stores;
+      stalled-stores = stalled-stores;
+      stalled-kept = stalled-kept;
+      stalled-exactly = stalled-exactly;
+      calls-stalled-exactly = calls-stalled-exactly;
+      stalled-shown = stalled-shown;
       no-such-profile = no-such-profile;
       call-no-such-profile = call-no-such-profile;
       call-no-such-setting = call-no-such-setting;

@@ -81,17 +81,25 @@ four (suc (suc (suc zero))) h x e = met _ (Int (record { 0 = 5 }) (record { 0 = 
 four (suc (suc (suc (suc i)))) h x e = absurd (omega arith)
 
 -- each write is one on which they agree
-common-cbaser : CommonWrite window (begun 0) (stores row (begun 0) GITS-CBASER 8 0x8000000040000000)
+common-cbaser : CommonWrite window row (begun 0) GITS-CBASER 8 0x8000000040000000
 unfolding shown
-common-cbaser = record { bit63 = λ on. never true refl (sym on); commands = λ on. never true refl (sym on) }
+common-cbaser =
+    record {
+      no-retry = λ e. absurd (omega (arith, e));
+      queue = record { bit63 = λ on. never true refl (sym on); commands = λ on. never true refl (sym on); none-refused = λ on. never true refl (sym on) };
+    }
 
-common-ctlr : CommonWrite window (based 0) (stores row (based 0) GITS-CTLR 4 1)
+common-ctlr : CommonWrite window row (based 0) GITS-CTLR 4 1
 unfolding shown
-common-ctlr = record { bit63 = λ on e w. refl; commands = λ on e w i h. absurd (omega arith) }
+common-ctlr =
+    record {
+      no-retry = λ e. absurd (omega (arith, e));
+      queue = record { bit63 = λ on e w. refl; commands = λ on e w i h. absurd (omega arith); none-refused = λ on e w. refl };
+    }
 
-common-cwriter : CommonWrite window (switched 0) (stores row (switched 0) GITS-CWRITER 8 128)
+common-cwriter : CommonWrite window row (switched 0) GITS-CWRITER 8 128
 unfolding shown commandHere
-common-cwriter = record { bit63 = λ on e w. refl; commands = λ on e w. four }
+common-cwriter = record { no-retry = λ e. refl; queue = record { bit63 = λ on e w. refl; commands = λ on e w. four; none-refused = λ on e w. refl } }
 
 wrote : (u : ItsState) (offset width value : ℕ) → Writes window row u offset width value (write window row u offset width value .written) (write window row u offset width value .row)
 wrote u offset width value = record { answer = refl; row-left = refl; numbers = refl }

@@ -3,7 +3,7 @@
 use Prim.Native.Nat.{ℕ, suc, _+_, _-_, _*_, _/_, _%_, _≤_, _<_}
 use native.Mathlib.Omega.{arith}
 use native.Mathlib.Nat.{mod-eq-sub-mod, mod-eq-of-lt, mod-add-mod}
-use mathlib.Core.Path.{_≡_, refl, sym, ap, ap₂, _∙_}
+use mathlib.Core.Path.{_≡_, refl, sym, ap, _∙_}
 use mathlib.Core.Bool.{true, false}
 use mathlib.Core.List.{List, []}
 use lib.ListN.{length}
@@ -21,13 +21,13 @@ use Rattle.model.specs.declared.WriteAnswer.the-variants.{NotTaken}
 use Rattle.model.specs.declared.Written.{Written}
 use Rattle.model.specs.Arm.{command-size}
 use Rattle.model.specs.Refusal.{writeNumbers}
-use Rattle.model.specs.With.{withRegisters, withReader}
+use Rattle.model.specs.With.{withRegisters, withStalled, withReader, unitStalled}
 use Rattle.model.specs.Config.{queueSize, soundConfig, soundRing, soundUnit}
 use Rattle.model.specs.Queue.{Window, Stands, distance, waiting, pastCommand, mayRun}
 use Rattle.model.specs.Entry.{Outcome, stores, write}
 use Rattle.model.specs.Passed.{ringOffset, CarriedOut, nothing, one-more}
 use Rattle.model.proofs.Cases.{cases, never, and-right}
-use Rattle.model.proofs.Profiles.{may-reader}
+use Rattle.model.proofs.Profiles.{may-cleared}
 use Rattle.model.proofs.Ring.{reader-below, offset-here}
 use Rattle.model.proofs.Waiting.{waiting-fewer, offset-once}
 use Rattle.model.proofs.Turns.{carried-registers, carried-config, offset-same}
@@ -43,6 +43,7 @@ use Rattle.guarantees.proofs.Remaining.{waiting-after}
 use Rattle.guarantees.proofs.Kept.{ring-kept, commands-kept}
 use Rattle.guarantees.proofs.Refused.{refusal-kept}
 use Rattle.guarantees.proofs.Unsound.{unsound-answers-1}
+use Rattle.guarantees.proofs.Holding.{base-quiet}
 
 -- from a, d commands on in a queue of that size, which has room for more than d
 counted : (a d size : ℕ) → a < size → command-size * d < size → distance a ((a + command-size * d) % size) size / command-size ≡ d
@@ -83,16 +84,6 @@ none-on e (one-more c x ok) = never true refl (cc)
 
 -- What is stored: with a new base nothing runs; and where the queue is let run, base and CREADR are as before and the ring is sound.
 module _ (w : Window) (row : List ItsAction) (u : ItsState) (offset width value : ℕ) where
-  base-quiet : {s : RegisterWrite} {o : Outcome} → Way w row u offset width value s o → s .rebased ≡ true → s .runs ≡ false
-  base-quiet (checked why c) b = refl
-  base-quiet (no-base sound) b = refl
-  base-quiet (no-writer sound at) b = refl
-  base-quiet (quiet s g) b = refl
-  base-quiet (based s c k z) b = refl
-  base-quiet (off s g out) b = never true refl (sym b)
-  base-quiet (over s g on more) b = never true refl (sym b)
-  base-quiet (ran s g on within) b = never true refl (sym b)
-
   let-run : {s : RegisterWrite} {o : Outcome} → Way w row u offset width value s o → s .runs ≡ true → Stored w row u offset width value (s .registers)
   let-run (checked why c) h = never true refl (sym h)
   let-run (no-base sound) h = never true refl (sym h)
@@ -116,8 +107,11 @@ module _ (w : Window) (row : List ItsAction) (u : ItsState) (offset width value 
 
   -- THE RING, where the stored ring is sound.
   module _ (ring : soundRing (s .registers) ≡ true) where
-    registers : r .unit .registers ≡ withReader (s .registers) (ringOffset (s .registers) done)
-    registers = passed-on (reader-below (s .registers) ring) (commands .carried) ∙ ap (λ n. withReader (s .registers) (ringOffset (s .registers) n)) (commands .shown)
+    registers : r .unit .registers ≡ withStalled (withReader (s .registers) (ringOffset (s .registers) done)) (r .unit .registers .stalled)
+    registers =
+        ap (λ v. v .registers) (commands .unit-left)
+        ∙ ap (λ g. withStalled g (r .unit .registers .stalled))
+        (passed-on (reader-below (s .registers) ring) (commands .carried) ∙ ap (λ n. withReader (s .registers) (ringOffset (s .registers) n)) (commands .shown))
 
     reader : r .unit .registers .creadr ≡ ringOffset (s .registers) done
     reader = ap (λ z. z .creadr) registers
@@ -159,7 +153,7 @@ module _ (w : Window) (row : List ItsAction) (u : ItsState) (offset width value 
         (λ runs. cases (mayRun (u .config) (s .registers))
         (λ on. cases (leb (waiting (s .registers)) (u .config .«command_budget»))
         (λ l. let few = leb-true (waiting (s .registers)) (u .config .«command_budget») l in omega (arith, kept .at-most))
-        (λ l. let none : done ≡ 0 = ap (λ a. writeNumbers a .done) (refusal .too-many runs on (leb-false _ _ l)) in omega arith))
+        (λ l. let none : done ≡ 0 = ap (λ z. writeNumbers (z .answer) .done) (refusal .too-many runs on (leb-false _ _ l)) in omega arith))
         (λ out. omega (arith, kept .may-not out)))
         (λ idle. omega (arith, kept .not-run idle))
 
@@ -175,14 +169,17 @@ module _ (w : Window) (row : List ItsAction) (u : ItsState) (offset width value 
         }
 
   -- THE COMMANDS.
-  none-done : done ≡ 0 → (r .unit ≡ withRegisters u (s .registers)) × (left ≡ row)
+  none-done : done ≡ 0 → (r .unit ≡ unitStalled (withRegisters u (s .registers)) (r .unit .registers .stalled)) × (left ≡ row)
   none-done zero-done =
       let no-command : passedBy w u r ≡ [] = rw zero-done in
       let (unit, no-action) = none-on no-command (commands .carried) in
-      (unit, commands .in-row ∙ rw no-action)
+      (commands .unit-left ∙ ap (λ v. unitStalled v (r .unit .registers .stalled)) unit, commands .in-row ∙ rw no-action)
+
+  left-config : r .unit .config ≡ u .config
+  left-config = ap (λ v. v .config) (commands .unit-left) ∙ same-config (commands .carried)
 
   commands-from : CommandsFollow w row u s r left
-  commands-from = record { config = same-config (commands .carried); as-many = commands .handed-over ∙ as-many (commands .carried); none-done = none-done }
+  commands-from = record { config = left-config; as-many = commands .handed-over ∙ as-many (commands .carried); none-done = none-done }
 
   -- A REFUSAL.
 
@@ -192,7 +189,7 @@ module _ (w : Window) (row : List ItsAction) (u : ItsState) (offset width value 
       let (runs, on, more) = refusal .only-then opcode at n k h in
       let told = refusal .too-many runs on more in
       let stored = let-run w row u offset width value (way w row u offset width value) runs in
-      ap₂ (λ v a. record { unit = v; answer = a }) (none-done (ap (λ a. writeNumbers a .done) told) .0) (told ∙ ap (λ a. NotTaken BudgetExceeded 0 a 0 0) (stored .reader))
+      told ∙ ap (λ a. record { unit = withRegisters u (s .registers); answer = NotTaken BudgetExceeded 0 a 0 0 }) (stored .reader)
 
   -- a refusal that is no command's
   zeros : {why′ : Refusal} {told : ℕ} (why : Refusal) → r .answer ≡ NotTaken why′ 0 told 0 0 → IfRefused r why (λ opcode at n k. (opcode ≡ 0) × (n ≡ 0) × (k ≡ 0) × (left ≡ row))
@@ -224,7 +221,7 @@ module _ (w : Window) (row : List ItsAction) (u : ItsState) (offset width value 
   elsewhere DeviceTooLarge other opcode at n k h = absurd (other refl)
   elsewhere BudgetExceeded other opcode at n k h =
       let limit = refusal .only-then opcode at n k h in
-      zeros BudgetExceeded (refusal .too-many (limit .0) (limit .1) (limit .2)) opcode at n k h
+      zeros BudgetExceeded (ap (λ z. z .answer) (refusal .too-many (limit .0) (limit .1) (limit .2))) opcode at n k h
   elsewhere NotInWindow other opcode at n k h = absurd (other refl)
   elsewhere ResourceNotFound other opcode at n k h = absurd (other refl)
   elsewhere TableFull other opcode at n k h = absurd (other refl)
@@ -252,16 +249,17 @@ module _ (w : Window) (row : List ItsAction) (u : ItsState) (offset width value 
         never true refl (cc))
 
     remain : waiting (r .unit .registers) ≡ waiting (s .registers) - done
-    remain = rw (registers (stored .ring)) (waiting-after (s .registers) (stored .ring) done (kept was-sound .at-most))
+    unfolding waiting
+    remain = ap waiting (registers (stored .ring)) ∙ waiting-after (s .registers) (stored .ring) done (kept was-sound .at-most)
 
     may-before : mayRun (u .config) (s .registers) ≡ true
-    may-before = ap (λ k. mayRun k (s .registers)) (sym (same-config (commands .carried))) ∙ stop .may
+    may-before = ap (λ k. mayRun k (s .registers)) (sym left-config) ∙ stop .may
 
     within : waiting (s .registers) ≤ u .config .«command_budget»
     within =
         cases (leb (waiting (s .registers)) (u .config .«command_budget»)) (λ l. leb-true (waiting (s .registers)) (u .config .«command_budget») l)
         (λ l. let told = refusal .too-many (stop .lets-run) may-before (leb-false (waiting (s .registers)) (u .config .«command_budget») l) in
-        let five : NotTaken why opcode at n k ≡ NotTaken BudgetExceeded 0 (s .registers .creadr) 0 0 = sym h ∙ told in
+        let five : NotTaken why opcode at n k ≡ NotTaken BudgetExceeded 0 (s .registers .creadr) 0 0 = sym h ∙ ap (λ z. z .answer) told in
         let same : BudgetExceeded ≡ why = cc in
         let two : at-budget ≡ at-command = ap givenAt same ∙ place in
         never true refl (cc))
@@ -276,7 +274,7 @@ module _ (w : Window) (row : List ItsAction) (u : ItsState) (offset width value 
           waited = omega (arith, number, remain, stop .waits);
           within = within;
           remain = rw (← number) remain;
-          may-still = rw (registers (stored .ring)) (may-reader (r .unit .config) (s .registers) _ ∙ stop .may);
+          may-still = ap (λ g. mayRun (r .unit .config) (withStalled g false)) (registers (stored .ring)) ∙ may-cleared (r .unit .config) (s .registers) _ (stop .may);
           opcode-read = staying (r .unit) w why opcode (stop .fails) .1;
         }
 

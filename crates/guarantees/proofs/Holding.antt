@@ -34,21 +34,32 @@ use Rattle.guarantees.specs.Profiles.{OnlyStores}
 use Rattle.guarantees.proofs.Unsound.{unsound-answers-1}
 
 module _ (w : Window) (row : List ItsAction) (u : ItsState) (offset width value : ℕ) where
-  by-way : {s : RegisterWrite} {o : Outcome} → Way w row u offset width value s o → s .runs ≡ true → held (u .config) (s .registers) ≡ true → OnlyStores row u s (o .written) (o .row)
-  by-way (checked why c) runs h = never true refl (sym runs)
-  by-way (no-base sound) runs h = never true refl (sym runs)
-  by-way (no-writer sound at) runs h = never true refl (sym runs)
-  by-way (quiet s g) runs h = never true refl (sym runs)
-  by-way (based s c k z) runs h = never true refl (sym runs)
-  by-way (off s g out) runs h = (refl, refl)
-  by-way (over s g on more) runs h = never (mayRun (u .config) s) on (held-may (u .config) s h)
-  by-way (ran s g on within) runs h = never (mayRun (u .config) s) on (held-may (u .config) s h)
+  -- a write with a new base lets no queue run
+  pub base-quiet : {s : RegisterWrite} {o : Outcome} → Way w row u offset width value s o → s .rebased ≡ true → s .runs ≡ false
+  base-quiet (checked why c) b = refl
+  base-quiet (no-base sound) b = refl
+  base-quiet (no-writer sound at) b = refl
+  base-quiet (quiet s g) b = refl
+  base-quiet (based s c k z) b = refl
+  base-quiet (off s g out) b = never true refl (sym b)
+  base-quiet (over s g on more) b = never true refl (sym b)
+  base-quiet (ran s g on within) b = never true refl (sym b)
+
+  pub held-by-way : {s : RegisterWrite} {o : Outcome} → Way w row u offset width value s o → s .runs ≡ true → held (u .config) (s .registers) ≡ true → OnlyStores row u s (o .written) (o .row)
+  held-by-way (checked why c) runs h = never true refl (sym runs)
+  held-by-way (no-base sound) runs h = never true refl (sym runs)
+  held-by-way (no-writer sound at) runs h = never true refl (sym runs)
+  held-by-way (quiet s g) runs h = never true refl (sym runs)
+  held-by-way (based s c k z) runs h = never true refl (sym runs)
+  held-by-way (off s g out) runs h = (refl, refl)
+  held-by-way (over s g on more) runs h = never (mayRun (u .config) s) on (held-may (u .config) s h)
+  held-by-way (ran s g on within) runs h = never (mayRun (u .config) s) on (held-may (u .config) s h)
 
   pub held-stores : (r : Written) (left : List ItsAction) → Writes w row u offset width value r left → profileOf (u .config) ≡ strict → stores row u offset width value .runs ≡ true →
       CBASER·Valid of stores row u offset width value .registers .cbaser ≡ 0 → OnlyStores row u (stores row u offset width value) r left
   unfolding held
   held-stores r left e s runs clear =
-      rw (e .answer, e .row-left) (by-way (way w row u offset width value) runs (rw (is-strict (u .config) s, clear) refl))
+      rw (e .answer, e .row-left) (held-by-way (way w row u offset width value) runs (rw (is-strict (u .config) s, clear) refl))
 
 -- a profile that there is not
 not-configured : (k : ItsConfig) → 1 < k .profile → configure k .verdict ≡ Refused Unsound

@@ -52,7 +52,9 @@ module _ (w : Window) (row : List ItsAction) (u : ItsState) (offset width value 
       record {
         shown = rw d;
         handed = [];
-        carried = rw (v, d) nothing;
+        led-to = withRegisters u (s .registers);
+        carried = rw d nothing;
+        unit-left = rw v refl;
         in-row = refl;
         room = refl;
         handed-over = a;

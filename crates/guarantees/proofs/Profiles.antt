@@ -2,6 +2,7 @@
 -- Assumes nothing.
 use Prim.Native.Nat.{ℕ}
 use mathlib.Core.Path.{_≡_, refl, sym, ap, subst, _∙_}
+use mathlib.Core.Bool.{false}
 use mathlib.Core.List.{List, [], _∷_, map}
 use lib.ListN.{getD}
 use Rattle.model.specs.declared.ItsConfig.{ItsConfig}
@@ -12,7 +13,7 @@ use Rattle.model.specs.declared.Command.{Command}
 use Rattle.model.specs.With.{withProfile}
 use Rattle.model.specs.Refusal.{verdictNumber}
 use Rattle.model.specs.Queue.{Window}
-use Rattle.model.specs.Entry.{configure, stores}
+use Rattle.model.specs.Entry.{configure}
 use Rattle.model.specs.In01.{configureIn01}
 use Rattle.model.specs.Common.{inProfile, CommonWrite}
 use Rattle.model.specs.Trace.{Record, CF, GM, RD, WR, TR, lentRow, writeOf, linesOf}
@@ -27,6 +28,7 @@ use Rattle.guarantees.proofs.Follows.{commands-follow}
 use Rattle.guarantees.proofs.InForce.{mappings-in-force}
 use Rattle.guarantees.proofs.AsWrites.{call-writes}
 use Rattle.guarantees.proofs.ByCalls.{accepted}
+use Rattle.guarantees.proofs.Stalled.{fresh-clear, base-bit}
 
 -- A BASE UNIT.
 module _ (u : ItsState) (b : u .config .profile ≡ 0) where
@@ -72,7 +74,7 @@ base-configured k b c e = e .answer ∙ base-configures k b
 told-alike : (m n : List ℕ) → n ≡ m → (r r′ : ℕ) (told told′ : List ℕ) → Tells m r told → Tells n r′ told′ → (r′ ≡ r) × (told′ ≡ told)
 told-alike m n e r r′ told told′ p q = (q .1 ∙ (ap (λ l. getD l 0 0) e ∙ sym (p .1)), q .0 ∙ (e ∙ sym (p .0)))
 
-module _ (u : ItsState) (b : u .config .profile ≡ 0) where
+module _ (u : ItsState) (b : u .config .profile ≡ 0) (clear : u .registers .stalled ≡ false) where
   abbrev v : ItsState
   v = inProfile 1 u
 
@@ -80,26 +82,26 @@ module _ (u : ItsState) (b : u .config .profile ≡ 0) where
   unfolding writeOf
   lines-alike w (CF k) c = refl
   lines-alike w (GM x) c = refl
-  lines-alike w (RD offset width) c = rw (same-reads u b offset width)
-  lines-alike w (WR offset width value) c = rw (same-writes u b w lentRow offset width value c)
-  lines-alike w (TR d e) c = rw (same-translates u b d e)
+  lines-alike w (RD offset width) c = rw (same-reads u b clear offset width)
+  lines-alike w (WR offset width value) c = rw (same-writes u b clear w lentRow offset width value c)
+  lines-alike w (TR d e) c = rw (same-translates u b clear d e)
 
   alike : AnswerAlike u v
   alike =
       record {
         same = refl;
-        reads = λ offset width r r′ e e′. e′ .answer ∙ (same-reads u b offset width ∙ sym (e .answer));
-        translates = λ d e r r′ q q′. q′ .answer ∙ (same-translates u b d e ∙ sym (q .answer));
+        reads = λ offset width r r′ e e′. e′ .answer ∙ (same-reads u b clear offset width ∙ sym (e .answer));
+        translates = λ d e r r′ q q′. q′ .answer ∙ (same-translates u b clear d e ∙ sym (q .answer));
         writes = λ w row offset width value c r r′ left left′ e e′.
-            let same = same-writes u b w row offset width value c in (
+            let same = same-writes u b clear w row offset width value c in (
               e′ .answer ∙ (ap (λ o. o .written) same ∙ ap (λ x. record { unit = inProfile 1 (x .unit); answer = x .answer }) (sym (e .answer))),
               e′ .row-left ∙ (ap (λ o. o .row) same ∙ sym (e .row-left)),
             );
-        call-reads = λ offset width r r′ told told′ c c′. told-alike _ _ (ap numbersOfRead (same-reads u b offset width)) r r′ told told′ c c′;
+        call-reads = λ offset width r r′ told told′ c c′. told-alike _ _ (ap numbersOfRead (same-reads u b clear offset width)) r r′ told told′ c c′;
         call-translates = λ device event r r′ told told′ c c′.
-            told-alike _ _ (ap numbersOfTranslation (same-translates u b (record { 0 = device }) (record { 0 = event }))) r r′ told told′ c c′;
+            told-alike _ _ (ap numbersOfTranslation (same-translates u b clear (record { 0 = device }) (record { 0 = event }))) r r′ told told′ c c′;
         call-writes = λ w row offset width value c left left′ after after′ r r′ told told′ x x′.
-            let same = same-writes u b w (map actionIn row) offset width value c in
+            let same = same-writes u b clear w (map actionIn row) offset width value c in
             let t = told-alike _ _ (ap (λ o. numbersOfWrite (o .written .answer)) same) r r′ told told′ (x .told) (x′ .told) in (
               x′ .unit ∙ (ap (λ o. o .written .unit) same ∙ ap (inProfile 1) (sym (x .unit))),
               x′ .row ∙ (ap (λ l. rowWith l row) (made w (map actionIn row) offset width value c) ∙ sym (x .row)),
@@ -109,26 +111,28 @@ module _ (u : ItsState) (b : u .config .profile ≡ 0) where
         records = lines-alike;
       }
     where
-      made : (w : Window) (row : List ItsAction) (offset width value : ℕ) → CommonWrite w u (stores row u offset width value) → actionsMade w row v offset width value ≡ actionsMade w row u offset width value
-      made w row offset width value c = same-made u b w row offset width value c
+      made : (w : Window) (row : List ItsAction) (offset width value : ℕ) → CommonWrite w row u offset width value → actionsMade w row v offset width value ≡ actionsMade w row u offset width value
+      made w row offset width value c = same-made u b clear w row offset width value c
 
-led-alike : {k : ItsConfig} {u v : ItsState} → LedAlike k u v → (v ≡ inProfile 1 u) × (u .config .profile ≡ 0)
+led-alike : {k : ItsConfig} {u v : ItsState} → LedAlike k u v → (v ≡ inProfile 1 u) × (u .config .profile ≡ 0) × (u .registers .stalled ≡ false)
 led-alike {k} (both-begin c c′ e e′ a) =
     let fresh = same-fresh k (ap (λ z. z .verdict) (sym (e .answer)) ∙ a) in (
       ap (λ z. z .unit) (e′ .answer) ∙ (fresh ∙ ap (λ z. inProfile 1 (z .unit)) (sym (e .answer))),
       ap (λ z. z .unit .config .profile) (e .answer) ∙ fresh-base k (ap (λ z. z .verdict) (sym (e .answer)) ∙ a),
+      ap (λ z. z .unit .registers .stalled) (e .answer) ∙ fresh-clear (withProfile k 0),
     )
 led-alike (both-write {u = u} {v = v} l w row offset width value c r r′ left left′ e e′) =
-    let (same, b) = led-alike l in
+    let (same, b, clear) = led-alike l in
     let e″ : Writes w row (inProfile 1 u) offset width value r′ left′ = subst (λ x. Writes w row x offset width value r′ left′) same e′ in (
-      ap (λ x. x .unit) (alike u b .writes w row offset width value c r r′ left left′ e e″ .0),
+      ap (λ x. x .unit) (alike u b clear .writes w row offset width value c r r′ left left′ e e″ .0),
       base-as-01 u b .stays-base w row offset width value r left e,
+      base-bit w row u offset width value r left e (rw b) ∙ clear,
     )
 
 pub profiles-alike : {k : ItsConfig} {u v : ItsState} → LedAlike k u v → AnswerAlike u v
 profiles-alike {u = u} l =
-    let (same, b) = led-alike l in
-    subst (AnswerAlike u) (sym same) (alike u b)
+    let (same, b, clear) = led-alike l in
+    subst (AnswerAlike u) (sym same) (alike u b clear)
 
 pub verdicts-alike : (k : ItsConfig) (c c′ : Configured) → Configures (withProfile k 0) c → Configures (withProfile k 1) c′ → c′ .verdict ≡ c .verdict
 verdicts-alike k c c′ e e′ = ap (λ z. z .verdict) (e′ .answer) ∙ (same-verdict k ∙ ap (λ z. z .verdict) (sym (e .answer)))
@@ -161,7 +165,7 @@ calls-begin limit budget frame ps u v r r′ told told′ c c′ =
     )
 
 pub calls-go-on : {k : ItsConfig} {u v : ItsState} → LedAlike k u v → (w : Window) (row : List ℕ) (offset width value : ℕ) →
-    CommonWrite w u (stores (map actionIn row) u offset width value) → (left left′ : ItsState) (after after′ : List ℕ) (r r′ : ℕ) (told told′ : List ℕ) →
+    CommonWrite w (map actionIn row) u offset width value → (left left′ : ItsState) (after after′ : List ℕ) (r r′ : ℕ) (told told′ : List ℕ) →
     CallWrites w row u offset width value left after r told → CallWrites w row v offset width value left′ after′ r′ told′ → LedAlike k left left′
 calls-go-on {u = u} {v = v} l w row offset width value c left left′ after after′ r r′ told told′ x x′ =
     let (a, (y, t)) = call-writes w row u offset width value left after r told x in

@@ -14,20 +14,22 @@ use Rattle.model.specs.declared.Refusal.{Refusal}
 use Rattle.model.specs.declared.Refusal.the-variants.{BaseZero, WriterRefused, BudgetExceeded, LineDoesNotFit}
 use Rattle.model.specs.declared.WriteAnswer.the-variants.{Taken, NotTaken}
 use Rattle.model.specs.declared.Written.{Written}
+use Rattle.model.specs.With.{withRegisters}
 use Rattle.model.specs.Queue.{Window, waiting, mayRun}
 use Rattle.model.specs.Register.{registerAt}
 use Rattle.model.specs.Entry.{Outcome, stores}
 use Rattle.model.proofs.Cases.{never}
 use Rattle.model.proofs.Ways.{Way, checked, no-base, no-writer, quiet, based, off, over, ran, way}
 use Rattle.its.specs.Contracts.{Writes}
-use Rattle.guarantees.specs.Refusals.{at-entry, at-cwriter, at-budget, at-command, at-output, givenAt, writerOf, IfRefused}
+use Rattle.guarantees.specs.Refusals.{at-entry, at-cwriter, at-budget, at-command, at-output, givenAt, writerBy, IfRefused}
 use Rattle.guarantees.specs.Kept.{StopsAt, RefusalKept}
 use Rattle.guarantees.proofs.Reasons.{Only, Entries, write-only}
 use Rattle.guarantees.proofs.Stopped.{stop-kind, stops, none-left}
 
 module _ (w : Window) (row : List ItsAction) (u : ItsState) (offset width value : ℕ) where
   too-many : {s : RegisterWrite} {o : Outcome} → Way w row u offset width value s o → s .runs ≡ true → mayRun (u .config) (s .registers) ≡ true →
-      u .config .«command_budget» < waiting (s .registers) → o .written .answer ≡ NotTaken BudgetExceeded 0 (s .registers .creadr) 0 0
+      u .config .«command_budget» < waiting (s .registers) →
+      o .written ≡ record { unit = withRegisters u (s .registers); answer = NotTaken BudgetExceeded 0 (s .registers .creadr) 0 0 }
   too-many (checked why c) runs on more = never true refl (sym runs)
   too-many (no-base sound) runs on more = never true refl (sym runs)
   too-many (no-writer sound at) runs on more = never true refl (sym runs)
@@ -74,7 +76,7 @@ module _ (w : Window) (row : List ItsAction) (u : ItsState) (offset width value 
       never true refl (cc)
 
   writer : {s : RegisterWrite} {o : Outcome} → Way w row u offset width value s o → IfRefused (o .written) WriterRefused (λ opcode at done actions.
-      (registerAt offset ≡ Cwriter) × (o .written ≡ record { unit = u; answer = NotTaken WriterRefused 0 (writerOf u offset width value) 0 0 }))
+      (registerAt offset ≡ Cwriter) × (o .written ≡ record { unit = u; answer = NotTaken WriterRefused 0 (writerBy u offset width value) 0 0 }))
   writer (checked why c) opcode at done actions h =
       let same : why ≡ WriterRefused = cc in
       let place : at-cwriter ≡ at-entry = rw same at (subst (Only Entries) c (write-only u (length row) offset width)) in

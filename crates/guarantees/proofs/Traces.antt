@@ -2,7 +2,7 @@
 -- Assumes nothing.
 use Prim.Native.Nat.{ℕ, zero, suc, _+_}
 use mathlib.Core.Path.{_≡_, refl, sym, ap, ap₂, _∙_}
-use mathlib.Core.Bool.{true}
+use mathlib.Core.Bool.{true, false}
 use mathlib.Core.List.{List, [], _∷_, _++_, map, append-assoc}
 use lib.ListN.{length, drop}
 use mathlib.Core.Logic.{_⊎_, inl, inr}
@@ -24,6 +24,7 @@ use Rattle.guarantees.specs.Profiles.{InBase, CommonRecord}
 use Rattle.trace.specs.Traced.{Traced}
 use Rattle.guarantees.specs.Traces.{readOn, recordsFrom, readAs, recordsIn, linesAfter, nextIn01, linesAfterIn01, traceLinesIn01, AllInBase, CommonAlong, inStrict, SameInStrict}
 use Rattle.guarantees.proofs.Follows.{commands-follow}
+use Rattle.guarantees.proofs.Stalled.{fresh-clear, base-bit}
 use Rattle.guarantees.proofs.Profiles.{lines-as-01, lines-alike}
 
 -- In base.
@@ -57,9 +58,13 @@ base-records s b (r ∷ rs) c =
     ap₂ _++_ (lines-as-01 (s .unit) b (s .window) r (c .0))
     (base-records (next s r) (stays-base s b r (c .0)) rs (c .1) ∙ ap (λ t. linesAfterIn01 t rs) (next-as-01 s b r (c .0)))
 
+-- a base unit that is not stalled
+abbrev Clear : ItsState → Type 0
+Clear u = (u .config .profile ≡ 0) × (u .registers .stalled ≡ false)
+
 -- In both: the strict run t beside the base run s has the same unit, or that unit in strict.
 abbrev Beside : Running → Running → Type 0
-Beside s t = (t .window ≡ s .window) × ((t .unit ≡ s .unit) ⊎ ((s .unit .config .profile ≡ 0) × (t .unit ≡ inProfile 1 (s .unit))))
+Beside s t = (t .window ≡ s .window) × ((t .unit ≡ s .unit) ⊎ (Clear (s .unit) × (t .unit ≡ inProfile 1 (s .unit))))
 
 is-base : (k : ItsConfig) → k .profile ≡ 0 → k ≡ withProfile k 0
 is-base k b = ap (withProfile k) b
@@ -75,10 +80,16 @@ both-configured : (k : ItsConfig) → k .profile ≡ 0 → (w w′ : Window) →
 both-configured k b w w′ e = (e, by-verdict (configure (withProfile k 0) .verdict) refl)
   where
     by-verdict : (v : Verdict) → configure (withProfile k 0) .verdict ≡ v →
-        (configure (withProfile k 1) .unit ≡ configure k .unit) ⊎ ((configure k .unit .config .profile ≡ 0) × (configure (withProfile k 1) .unit ≡ inProfile 1 (configure k .unit)))
-    by-verdict Accepted a = inr (configured-base k b, same-fresh k a ∙ ap (λ z. inProfile 1 (configure z .unit)) (sym (is-base k b)))
+        (configure (withProfile k 1) .unit ≡ configure k .unit) ⊎ (Clear (configure k .unit) × (configure (withProfile k 1) .unit ≡ inProfile 1 (configure k .unit)))
+    by-verdict Accepted a = inr ((configured-base k b, fresh-clear k), same-fresh k a ∙ ap (λ z. inProfile 1 (configure z .unit)) (sym (is-base k b)))
     by-verdict (Refused why) a =
         inl (none-refused (withProfile k 1) why (same-verdict k ∙ a) ∙ sym (none-refused k why (ap (λ z. configure z .verdict) (is-base k b) ∙ a)))
+
+-- base never writes Stalled
+stays-clear : (s : Running) → Clear (s .unit) → (offset width value : ℕ) → writeOf s offset width value .written .unit .registers .stalled ≡ false
+unfolding writeOf
+stays-clear s b offset width value =
+    base-bit (s .window) lentRow (s .unit) offset width value _ _ (record { answer = refl; row-left = refl; numbers = refl }) (rw (b .0)) ∙ b .1
 
 same-next : (s : Running) (v : ItsState) → v ≡ s .unit → (r : Record) → InBase r → (t : Window) → t ≡ s .window →
     (linesOf (record { unit = v; window = t }) (inStrict r) ≡ linesOf s r) × Beside (next s r) (next (record { unit = v; window = t }) (inStrict r))
@@ -88,17 +99,23 @@ same-next s v e (RD offset width) c t x = (rw e, (x, inl e))
 same-next s v e (WR offset width value) c t x = (rw (e, x), (x, inl (rw (e, x))))
 same-next s v e (TR d y) c t x = (rw e, (x, inl e))
 
-strict-next : (s : Running) → s .unit .config .profile ≡ 0 → (v : ItsState) → v ≡ inProfile 1 (s .unit) → (r : Record) → InBase r → CommonRecord s r → (t : Window) → t ≡ s .window →
+strict-next : (s : Running) → Clear (s .unit) → (v : ItsState) → v ≡ inProfile 1 (s .unit) → (r : Record) → InBase r → CommonRecord s r → (t : Window) → t ≡ s .window →
     (linesOf (record { unit = v; window = t }) (inStrict r) ≡ linesOf s r) × Beside (next s r) (next (record { unit = v; window = t }) (inStrict r))
 unfolding writeOf
 strict-next s b v e (CF k) c d t x = (ap (λ z. line "CF" (verdictNumber z ∷ []) ∷ []) (same-verdict k ∙ ap (λ z. configure z .verdict) (sym (is-base k c))), both-configured k c (s .window) t x)
 strict-next s b v e (GM w) c d t x = (refl, (refl, inr (b, e)))
-strict-next s b v e (RD offset width) c d t x = (rw e (lines-alike (s .unit) b (s .window) (RD offset width) d), (x, inr (b, e)))
+strict-next s b v e (RD offset width) c d t x = (rw e (lines-alike (s .unit) (b .0) (b .1) (s .window) (RD offset width) d), (x, inr (b, e)))
 strict-next s b v e (WR offset width value) c d t x = (
-  rw (e, x) (lines-alike (s .unit) b (s .window) (WR offset width value) d),
-  (x, inr (stays-base s b (WR offset width value) c, rw (e, x) (ap (λ o. o .written .unit) (same-writes (s .unit) b (s .window) lentRow offset width value d)))),
+  rw (e, x) (lines-alike (s .unit) (b .0) (b .1) (s .window) (WR offset width value) d),
+  (
+    x,
+    inr (
+      (stays-base s (b .0) (WR offset width value) c, stays-clear s b offset width value),
+      rw (e, x) (ap (λ o. o .written .unit) (same-writes (s .unit) (b .0) (b .1) (s .window) lentRow offset width value d)),
+    ),
+  ),
 )
-strict-next s b v e (TR y z) c d t x = (rw e (lines-alike (s .unit) b (s .window) (TR y z) d), (x, inr (b, e)))
+strict-next s b v e (TR y z) c d t x = (rw e (lines-alike (s .unit) (b .0) (b .1) (s .window) (TR y z) d), (x, inr (b, e)))
 
 traces-beside : (s t : Running) → Beside s t → (rs : List Record) → AllInBase rs → CommonAlong s rs → linesAfter t (map inStrict rs) ≡ linesAfter s rs
 traces-beside s t b [] c d = refl

@@ -14,7 +14,7 @@ use Rattle.model.specs.declared.WriteAnswer.the-variants.{NotTaken}
 use Rattle.model.specs.declared.Written.{Written}
 use Rattle.model.specs.Choose.{ifFound}
 use Rattle.model.specs.Arm.{command-size}
-use Rattle.model.specs.With.{withRegisters, withReader}
+use Rattle.model.specs.With.{withRegisters, withStalled, withReader, unitStalled}
 use Rattle.model.specs.Config.{queueSize, soundUnit}
 use Rattle.model.specs.Decode.{opcodeOf}
 use Rattle.model.specs.Queue.{Window, commandAt, commandAddress, distance, waiting, mayRun}
@@ -24,8 +24,8 @@ use Rattle.guarantees.specs.Refusals.{at-command, givenAt, IfRefused}
 
 -- DONE IS CREADR'S ADVANCE, of a sound unit, also one that was built by hand.
 pub record RingFollows (u : ItsState) (s : RegisterWrite) (r : Written) : Type 0 where
-  -- CREADR passed as many commands as were done, and the other registers are as they were stored (shown, carried)
-  pub registers : r .unit .registers ≡ withReader (s .registers) (ringOffset (s .registers) (doneIn r))
+  -- CREADR passed as many commands as were done, and the other registers are as they were stored, but for Stalled (shown, carried, unit-left)
+  pub registers : r .unit .registers ≡ withStalled (withReader (s .registers) (ringOffset (s .registers) (doneIn r))) (r .unit .registers .stalled)
   -- so it advanced by exactly 32 times that number, modulo the queue size (what is stored: but for CBASER's write, base and CREADR are as they were)
   pub advance : s .rebased ≡ false → r .unit .registers .creadr ≡ ringOffset (u .registers) (doneIn r)
   -- and done is the number of commands from the old CREADR to the new one, round the ring (at-most)
@@ -39,13 +39,14 @@ pub record RingFollows (u : ItsState) (s : RegisterWrite) (r : Written) : Type 0
 
 -- THE COMMANDS, of every unit.
 pub record CommandsFollow (w : Window) (row : List ItsAction) (u : ItsState) (s : RegisterWrite) (r : Written) (left : List ItsAction) : Type 0 where
-  -- the configuration never changes (carried)
+  -- the configuration never changes (carried, unit-left)
   pub config : r .unit .config ≡ u .config
   -- actions is k, the number of INT and CLEAR carried out in this write, refused or not: none is of the refused command, none of an earlier write
   -- (02, A2; carried, handed-over)
   pub as-many : actionsIn r ≡ intsAndClears (passedBy w u r)
-  -- where none was done, nothing changed but what the write stores, and the row is as it was (carried, in-row)
-  pub none-done : doneIn r ≡ 0 → (r .unit ≡ withRegisters u (s .registers)) × (left ≡ row)
+  -- where none was done, nothing changed but what the write stores, and Stalled where the first one was refused; the row is as it was (carried,
+  -- unit-left, in-row)
+  pub none-done : doneIn r ≡ 0 → (r .unit ≡ unitStalled (withRegisters u (s .registers)) (r .unit .registers .stalled)) × (left ≡ row)
 
 -- A refused command, the first one or a later one. Beside this stand StopsAt (its reason, its opcode, its offset) and, as of every write, the earlier
 -- commands carried out and the row that holds their actions (carried, in-row).
@@ -57,9 +58,9 @@ pub record CommandRefused (w : Window) (u : ItsState) (s : RegisterWrite) (r : W
   -- it is one of those that waited, which are within the budget (waits, too-many)
   pub waited : done < waiting (s .registers)
   pub within : waiting (s .registers) ≤ u .config .«command_budget»
-  -- it waits still, with those behind it, in a unit whose queue may run (registers, at-most, may)
+  -- it waits still, with those behind it, in a unit whose queue may run, in strict once Stalled is cleared (registers, at-most, may)
   pub remain : waiting (r .unit .registers) ≡ waiting (s .registers) - done
-  pub may-still : mayRun (r .unit .config) (r .unit .registers) ≡ true
+  pub may-still : mayRun (r .unit .config) (withStalled (r .unit .registers) false) ≡ true
   -- opcode is the command's, and 0 where it was not read (fails)
   pub opcode-read : opcode ≡ ifFound (commandAt w (commandAddress (r .unit .registers) (r .unit .registers .creadr))) opcodeOf 0
 
@@ -72,7 +73,7 @@ pub record RefusalFollows (w : Window) (row : List ItsAction) (u : ItsState) (s 
   -- unless it is a command's, no command was done, nothing is handed over, and the row is as it was (before-all, writer, too-many, none-done)
   pub elsewhere : (why : Refusal) → (givenAt why ≡ at-command → ⊥) → IfRefused r why (λ opcode at done actions.
       (opcode ≡ 0) × (done ≡ 0) × (actions ≡ 0) × (left ≡ row))
-  -- after 5 the register write stays stored, and nothing else changed (only-then, too-many, none-done)
+  -- after 5 the register write stays stored, and nothing else changed (only-then, too-many)
   pub by-5 : IfRefused r BudgetExceeded (λ opcode at done actions. OnlyStored u s r)
   -- and of a refused command
   pub of-a-command : (why : Refusal) → givenAt why ≡ at-command → IfRefused r why (λ opcode at done actions. CommandRefused w u s r opcode done)

@@ -1,6 +1,6 @@
 -- WHAT A WRITE KEEPS, of the ring, of the commands and of a refusal: three records, and no field follows from the others. w is the window, row the row
 -- before the write and left what stands in it afterwards, u the unit before the write, s what the write does to its registers (model: `Entry.stores`),
--- r the unit and the answer. What follows from the three is said in Follows.antt.
+-- r the unit and the answer. What follows from the three is said in Follows.antt, and what becomes of Stalled in Stalled.antt.
 -- Assumes nothing.
 use Prim.Native.Nat.{ℕ, _≤_, _<_}
 use mathlib.Core.Path.{_≡_}
@@ -15,13 +15,13 @@ use Rattle.model.specs.declared.Refusal.{Refusal}
 use Rattle.model.specs.declared.Refusal.the-variants.{WriterRefused, BudgetExceeded, LineDoesNotFit}
 use Rattle.model.specs.declared.WriteAnswer.the-variants.{Taken, NotTaken}
 use Rattle.model.specs.declared.Written.{Written}
-use Rattle.model.specs.With.{withRegisters}
+use Rattle.model.specs.With.{withRegisters, unitStalled}
 use Rattle.model.specs.Config.{soundUnit}
 use Rattle.model.specs.Queue.{Window, waiting, stays, turn, mayRun}
 use Rattle.model.specs.Register.{registerAt}
 use Rattle.model.specs.Passed.{CarriedOut}
 use Rattle.guarantees.specs.Actions.{doneIn, actionsIn, passedBy}
-use Rattle.guarantees.specs.Refusals.{at-entry, at-command, givenAt, writerOf, IfRefused}
+use Rattle.guarantees.specs.Refusals.{at-entry, at-command, givenAt, writerBy, IfRefused}
 
 -- THE RING, of a sound unit, also one that was built by hand. That done is CREADR's advance follows (Follows.RingFollows).
 pub record RingKept (u : ItsState) (s : RegisterWrite) (r : Written) : Type 0 where
@@ -29,7 +29,8 @@ pub record RingKept (u : ItsState) (s : RegisterWrite) (r : Written) : Type 0 wh
   pub sound : soundUnit (r .unit) ≡ true
   -- no more was done than waited
   pub at-most : doneIn r ≤ waiting (s .registers)
-  -- a write that lets no queue run does none, nor does one after which the queue may not run: the unit is disabled, or in strict CBASER's bit 63 is 0
+  -- a write that lets no queue run does none, nor does one after which the queue may not run: the unit is disabled, or in strict CBASER's bit 63 is 0 or
+  -- the unit stalled
   pub not-run : s .runs ≡ false → doneIn r ≡ 0
   pub may-not : mayRun (u .config) (s .registers) ≡ false → doneIn r ≡ 0
 
@@ -39,8 +40,11 @@ pub record CommandsKept (w : Window) (row : List ItsAction) (u : ItsState) (s : 
   pub shown : length (passedBy w u r) ≡ doneIn r
   -- the actions of these commands, the first one first
   pub handed : List ItsAction
-  -- exactly those were carried out, from the unit with the value stored, each accepted by the unit that met it
-  pub carried : CarriedOut (withRegisters u (s .registers)) (passedBy w u r) handed (r .unit)
+  -- exactly those were carried out, from the unit with the value stored, each accepted by the unit that met it, and they led to this unit
+  pub led-to : ItsState
+  pub carried : CarriedOut (withRegisters u (s .registers)) (passedBy w u r) handed led-to
+  -- it is the unit that is left, but for Stalled, which a refused command sets in strict
+  pub unit-left : r .unit ≡ unitStalled led-to (r .unit .registers .stalled)
   -- the row's first records hold their actions, in order, and the others are unchanged
   pub in-row : left ≡ handed ++ drop (length handed) row
   -- the row has room for them: it has as many records as before
@@ -66,11 +70,11 @@ pub record RefusalKept (w : Window) (u : ItsState) (offset width value : ℕ) (s
   pub before-all : (why : Refusal) → givenAt why ≡ at-entry → IfRefused r why (λ opcode at done actions. r ≡ record { unit = u; answer = NotTaken why 0 0 0 0 })
   -- 7, of CWRITER: the same, but the offset is the refused writer
   pub writer : IfRefused r WriterRefused (λ opcode at done actions.
-      (registerAt offset ≡ Cwriter) × (r ≡ record { unit = u; answer = NotTaken WriterRefused 0 (writerOf u offset width value) 0 0 }))
-  -- 5 is tested once, before any command: where more wait than the budget, that is the answer; the offset is CREADR, nothing is done and nothing
-  -- handed over
+      (registerAt offset ≡ Cwriter) × (r ≡ record { unit = u; answer = NotTaken WriterRefused 0 (writerBy u offset width value) 0 0 }))
+  -- 5 is tested once, before any command: where more wait than the budget, that is the answer; the offset is CREADR, nothing is done, nothing handed
+  -- over, and nothing but what the write stores changed
   pub too-many : s .runs ≡ true → mayRun (u .config) (s .registers) ≡ true → u .config .«command_budget» < waiting (s .registers) →
-      r .answer ≡ NotTaken BudgetExceeded 0 (s .registers .creadr) 0 0
+      r ≡ record { unit = withRegisters u (s .registers); answer = NotTaken BudgetExceeded 0 (s .registers .creadr) 0 0 }
   -- and 5 is answered only then
   pub only-then : IfRefused r BudgetExceeded (λ opcode at done actions.
       (s .runs ≡ true) × (mayRun (u .config) (s .registers) ≡ true) × (u .config .«command_budget» < waiting (s .registers)))

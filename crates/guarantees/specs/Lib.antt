@@ -6,8 +6,9 @@ pub mod Kept
 pub mod Follows
 pub mod MappingsInForce
 pub mod CallsInForce
-pub mod Retries
 pub mod Profiles
+pub mod Retries
+pub mod Stalled
 pub mod ExampleCalls
 pub mod Traces
 pub mod ExampleStrict

@@ -1,4 +1,4 @@
--- Document 02, A3, over the contracts of the entries and of the C calls, and over a record of a trace (whole traces: Traces). A base unit is document 01's,
+-- Document 02, A3 and A4, over the contracts of the entries and of the C calls, and over a record of a trace (whole traces: Traces). A base unit is document 01's,
 -- with A1 and A2 and as if there were no profile; and where the profiles agree (model: Common) both answer alike, over whole runs.
 -- Assumes nothing.
 use Prim.Native.Nat.{ℕ}
@@ -19,7 +19,6 @@ use Rattle.model.specs.declared.Written.{Written}
 use Rattle.model.specs.With.{withRegisters, withProfile}
 use Rattle.model.specs.Refusal.{verdictNumber, readNumbers, translateNumbers}
 use Rattle.model.specs.Queue.{Window}
-use Rattle.model.specs.Entry.{stores}
 use Rattle.model.specs.In01.{configureIn01, readIn01, translateIn01, writeIn01}
 use Rattle.model.specs.Common.{inProfile, CommonWrite}
 use Rattle.model.specs.Trace.{Record, CF, GM, RD, WR, TR, Running, line, readLine, translateLine, writeLines, lentRow, linesOf}
@@ -69,7 +68,7 @@ pub record As01 (u : ItsState) : Type 0 where
   -- and a record of a trace has the same lines
   pub records : (w : Window) (r : Record) → InBase r → linesOf (standing u w) r ≡ linesIn01 (standing u w) r
 
--- STRICT, of a queue that is held (model: Queue.held): what was written is stored, the answer is 0, and the row stays.
+-- STRICT, of a queue that is held (model: Queue.held), by bit 63 of CBASER or by Stalled: what was written is stored, the answer is 0, and the row stays.
 abbrev pub OnlyStores : List ItsAction → ItsState → RegisterWrite → Written → List ItsAction → Type 0
 OnlyStores row u s r left = (r ≡ record { unit = withRegisters u (s .registers); answer = Taken 0 0 }) × (left ≡ row)
 
@@ -79,7 +78,7 @@ OnlyStores row u s r left = (r ≡ record { unit = withRegisters u (s .registers
 -- it is; each write was one on which the profiles agree, seen from the base unit.
 pub data LedAlike (k : ItsConfig) : ItsState → ItsState → Type 0 where
   both-begin : (c c′ : Configured) → Configures (withProfile k 0) c → Configures (withProfile k 1) c′ → c .verdict ≡ Accepted → LedAlike k (c .unit) (c′ .unit)
-  both-write : {u v : ItsState} → LedAlike k u v → (w : Window) (row : List ItsAction) (offset width value : ℕ) → CommonWrite w u (stores row u offset width value) →
+  both-write : {u v : ItsState} → LedAlike k u v → (w : Window) (row : List ItsAction) (offset width value : ℕ) → CommonWrite w row u offset width value →
       (r r′ : Written) (left left′ : List ItsAction) → Writes w row u offset width value r left → Writes w row v offset width value r′ left′ →
       LedAlike k (r .unit) (r′ .unit)
 
@@ -88,7 +87,7 @@ abbrev pub CommonRecord : Running → Record → Type 0
 CommonRecord s (CF k) = Unit {0}
 CommonRecord s (GM w) = Unit {0}
 CommonRecord s (RD offset width) = Unit {0}
-CommonRecord s (WR offset width value) = CommonWrite (s .window) (s .unit) (stores lentRow (s .unit) offset width value)
+CommonRecord s (WR offset width value) = CommonWrite (s .window) lentRow (s .unit) offset width value
 CommonRecord s (TR d e) = Unit {0}
 
 -- BOTH ANSWER ALIKE, the base unit u and the strict unit v.
@@ -98,14 +97,14 @@ pub record AnswerAlike (u v : ItsState) : Type 0 where
   pub reads : (offset width : ℕ) (r r′ : ReadAnswer) → Reads u offset width r → Reads v offset width r′ → r′ ≡ r
   pub translates : (d : ItsDeviceId) (e : EventId) (r r′ : TranslateAnswer) → Translates u d e r → Translates v d e r′ → r′ ≡ r
   -- a write on which they agree: the same answer and row, and the same unit but for the profile
-  pub writes : (w : Window) (row : List ItsAction) (offset width value : ℕ) → CommonWrite w u (stores row u offset width value) →
+  pub writes : (w : Window) (row : List ItsAction) (offset width value : ℕ) → CommonWrite w row u offset width value →
       (r r′ : Written) (left left′ : List ItsAction) → Writes w row u offset width value r left → Writes w row v offset width value r′ left′ →
       (r′ ≡ record { unit = inProfile 1 (r .unit); answer = r .answer }) × (left′ ≡ left)
   -- the C calls
   pub call-reads : (offset width r r′ : ℕ) (told told′ : List ℕ) → CallReads u offset width r told → CallReads v offset width r′ told′ → (r′ ≡ r) × (told′ ≡ told)
   pub call-translates : (device event r r′ : ℕ) (told told′ : List ℕ) → CallTranslates u device event r told → CallTranslates v device event r′ told′ →
       (r′ ≡ r) × (told′ ≡ told)
-  pub call-writes : (w : Window) (row : List ℕ) (offset width value : ℕ) → CommonWrite w u (stores (map actionIn row) u offset width value) →
+  pub call-writes : (w : Window) (row : List ℕ) (offset width value : ℕ) → CommonWrite w (map actionIn row) u offset width value →
       (left left′ : ItsState) (after after′ : List ℕ) (r r′ : ℕ) (told told′ : List ℕ) →
       CallWrites w row u offset width value left after r told → CallWrites w row v offset width value left′ after′ r′ told′ →
       (left′ ≡ inProfile 1 left) × (after′ ≡ after) × (r′ ≡ r) × (told′ ≡ told)

@@ -22,7 +22,7 @@ use Rattle.model.specs.declared.Written.{Written}
 use Rattle.model.specs.Refusal.{numberOf, readNumbers, translateNumbers}
 use Rattle.model.specs.Queue.{Window}
 use Rattle.model.specs.Register.{valueWritten}
-use Rattle.model.specs.Writing.{writerTaken}
+use Rattle.model.specs.Writing.{writerOf}
 use Rattle.its.specs.Contracts.{Reads, Writes, Translates}
 
 -- Where a refusal is given.
@@ -75,9 +75,9 @@ givenAt LineDoesNotFit = at-output
 abbrev pub IfRefused : Written → Refusal → (ℕ → ℕ → ℕ → ℕ → Type 0) → Type 0
 IfRefused r why P = (opcode at done actions : ℕ) → r .answer ≡ NotTaken why opcode at done actions → P opcode at done actions
 
--- the writer that a CWRITER write brings: the merged value; with a nonzero CBASER its bits 19:0
-abbrev pub writerOf : ItsState → ℕ → ℕ → ℕ → ℕ
-writerOf u offset width value = writerTaken (u .registers) (valueWritten (u .config) (u .registers) offset width value Cwriter)
+-- the writer that a CWRITER write brings: the merged value, in strict without bit 0; with a nonzero CBASER its bits 19:0
+abbrev pub writerBy : ItsState → ℕ → ℕ → ℕ → ℕ
+writerBy u offset width value = writerOf (u .config) (u .registers) (valueWritten (u .config) (u .registers) offset width value Cwriter)
 
 -- WHAT A REFUSED READ LEAVES. The unit stays, since none comes back.
 pub record ReadLeaves (r : ReadAnswer) : Type 0 where

@@ -1,6 +1,7 @@
--- Document 01, "Refusal numbers": CREADR stays on the failing command, and a later enabling CTLR write or accepted CWRITER write tries it again.
+-- Document 01, "Refusal numbers": CREADR stays on the failing command, and a later enabling CTLR write or accepted CWRITER write tries it again. In strict,
+-- where that command has stalled the unit, only an accepted CWRITER write with Retry does (02, A4).
 -- Assumes nothing.
-use Prim.Native.Nat.{ℕ, _≤_, _<_}
+use Prim.Native.Nat.{ℕ, _+_, _≤_, _<_}
 use mathlib.Core.Path.{_≡_}
 use mathlib.Core.Bool.{true}
 use mathlib.Core.List.{List, [], _∷_, _++_}
@@ -12,20 +13,22 @@ use Rattle.model.specs.declared.RegisterWrite.{RegisterWrite}
 use Rattle.model.specs.declared.Refusal.{Refusal}
 use Rattle.model.specs.declared.WriteAnswer.the-variants.{NotTaken}
 use Rattle.model.specs.declared.Written.{Written}
-use Rattle.model.specs.Arm.{GITS-CTLR}
-use Rattle.model.specs.With.{withRegisters}
-use Rattle.model.specs.Queue.{Window, waiting, passes, stays, turn, carryOut, mayRun}
+use Rattle.model.specs.Arm.{_of_, CWRITER·Retry, GITS-CTLR, GITS-CWRITER}
+use Rattle.model.specs.With.{withRegisters, unitStalled}
+use Rattle.model.specs.Profile.{base, strict, profileOf}
+use Rattle.model.specs.Queue.{Window, waiting, passes, stays, turn, carryOut, stall, mayRun}
 use Rattle.model.specs.Writing.{enables}
 use Rattle.model.specs.Entry.{stores}
 use Rattle.model.specs.Passed.{CarriedOut}
 use Rattle.its.specs.Contracts.{Writes}
 use Rattle.guarantees.specs.Actions.{passedBy}
+use Rattle.guarantees.specs.Profiles.{OnlyStores}
 
 -- The write tries its queue. s is what it does to the registers.
 pub record Tries (u : ItsState) (s : RegisterWrite) : Type 0 where
   -- a CTLR write or an accepted CWRITER write, not refused at the entry
   pub lets-run : s .runs ≡ true
-  -- the queue may run then: the unit is enabled, and in strict CBASER's bit 63 is set
+  -- the queue may run then: the unit is enabled, and in strict CBASER's bit 63 is set and the unit not stalled, or no longer
   pub may : mayRun (u .config) (s .registers) ≡ true
   -- commands wait
   pub waits : 0 < waiting (s .registers)
@@ -39,14 +42,17 @@ pub record BeginsWith (w : Window) (u : ItsState) (s : RegisterWrite) (r : Writt
   pub handed : List ItsAction
   -- the commands passed are x and then these (the last one first)
   pub first : passedBy w u r ≡ later ++ x ∷ []
-  -- x was carried out by the unit with the value stored, and the later ones from there
-  pub follow : CarriedOut (carryOut (withRegisters u (s .registers)) x) later handed (r .unit)
+  -- x was carried out by the unit with the value stored, and the later ones from there; the unit that they led to is left, but for Stalled
+  pub led-to : ItsState
+  pub follow : CarriedOut (carryOut (withRegisters u (s .registers)) x) later handed led-to
+  pub unit-left : r .unit ≡ unitStalled led-to (r .unit .registers .stalled)
 
 -- Such a write begins with the command on which CREADR stands, as its own window shows it.
 pub record TriesAgain (w : Window) (row : List ItsAction) (u : ItsState) (s : RegisterWrite) (r : Written) (left : List ItsAction) : Type 0 where
-  -- where the unit refuses it, that is the answer: its reason and opcode, CREADR, nothing done and nothing handed over; only the register written changes
+  -- where the unit refuses it, that is the answer: its reason and opcode, CREADR, nothing done and nothing handed over; only the register written changes,
+  -- and in strict the unit is stalled
   pub refuses : (why : Refusal) (opcode : ℕ) → turn w u ≡ stays why opcode →
-      (r ≡ record { unit = withRegisters u (s .registers); answer = NotTaken why opcode (u .registers .creadr) 0 0 }) × (left ≡ row)
+      (r ≡ record { unit = stall (withRegisters u (s .registers)); answer = NotTaken why opcode (u .registers .creadr) 0 0 }) × (left ≡ row)
   -- where the unit accepts it, it is the first command carried out
   pub accepts : (x : Command) → turn w u ≡ passes x → BeginsWith w u s r x
 
@@ -55,7 +61,15 @@ pub record TriedLater (w : Window) (v : Written) (why : Refusal) (opcode offset 
   -- a later write that tries the queue, with any window, begins there
   pub again : (w′ : Window) (row : List ItsAction) (offset′ width value : ℕ) (r : Written) (left : List ItsAction) → Writes w′ row (v .unit) offset′ width value r left →
       Tries (v .unit) (stores row (v .unit) offset′ width value) → TriesAgain w′ row (v .unit) (stores row (v .unit) offset′ width value) r left
-  -- with the same window, a CTLR write that enables is refused in the same way, and leaves unit and row as they are
-  pub same : (row : List ItsAction) (value : ℕ) (r : Written) (left : List ItsAction) → Writes w row (v .unit) GITS-CTLR 4 value r left →
+  -- in base, with the same window, a CTLR write that enables is refused in the same way, and leaves unit and row as they are
+  pub same : profileOf (v .unit .config) ≡ base → (row : List ItsAction) (value : ℕ) (r : Written) (left : List ItsAction) → Writes w row (v .unit) GITS-CTLR 4 value r left →
       v .unit .config .«command_budget» ≤ length row → enables value ≡ true →
+      (r ≡ record { unit = v .unit; answer = NotTaken why opcode offset 0 0 }) × (left ≡ row)
+  -- in strict a write without Retry that would let the queue run only stores: it tries nothing, be it a CTLR write that enables
+  pub waits : profileOf (v .unit .config) ≡ strict → (w′ : Window) (row : List ItsAction) (offset′ width value : ℕ) (r : Written) (left : List ItsAction) →
+      Writes w′ row (v .unit) offset′ width value r left → stores row (v .unit) offset′ width value .runs ≡ true → (offset′ ≡ GITS-CWRITER → CWRITER·Retry of value ≡ 0) →
+      OnlyStores row (v .unit) (stores row (v .unit) offset′ width value) r left
+  -- and with the same window, CWRITER written as it is, with Retry, is refused in the same way, and leaves unit and row as they are
+  pub retried : profileOf (v .unit .config) ≡ strict → (row : List ItsAction) (r : Written) (left : List ItsAction) →
+      Writes w row (v .unit) GITS-CWRITER 8 (v .unit .registers .cwriter + 1) r left → v .unit .config .«command_budget» ≤ length row →
       (r ≡ record { unit = v .unit; answer = NotTaken why opcode offset 0 0 }) × (left ≡ row)

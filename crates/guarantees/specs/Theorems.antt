@@ -23,7 +23,7 @@ use Rattle.model.specs.declared.Configured.{Configured}
 use Rattle.model.specs.declared.Written.{Written}
 use Rattle.model.specs.Refusal.{numberOf, reasons, numberIn01, folded}
 use Rattle.model.specs.Config.{soundUnit}
-use Rattle.model.specs.Arm.{_of_, CBASER·Valid}
+use Rattle.model.specs.Arm.{_of_, CBASER·Valid, CWRITER·Retry, GITS-CWRITER}
 use Rattle.model.specs.Profile.{Profile, strict, profileOf}
 use Rattle.model.specs.Step.{check}
 use Rattle.model.specs.Queue.{Window, stays, turn}
@@ -46,6 +46,7 @@ use Rattle.guarantees.specs.Follows.{RingFollows, CommandsFollow, Refusa
 use Rattle.guarantees.specs.MappingsInForce.{Led, OfWritesTo, MappingsInForce}
 use Rattle.guarantees.specs.CallsInForce.{LedByCalls, OfCallsTo, CallsInForce}
 use Rattle.guarantees.specs.Retries.{Tries, TriesAgain, TriedLater}
+use Rattle.guarantees.specs.Stalled.{StalledKept, trail, trailTold, StoppedSince, StalledShown}
 use Rattle.guarantees.specs.Profiles.{As01, OnlyStores, LedAlike, AnswerAlike}
 use Rattle.guarantees.specs.Traces.{recordsIn, traceLinesIn01, AllInBase, CommonAlong, SameInStrict}
 use Rattle.guarantees.specs.ExampleStrict.{ExampleStrict}
@@ -83,6 +84,18 @@ pub record Theorems : Type 0 where
   -- large: refused-because)
   pub held-stores : OfEveryWrite (λ w row u offset width value r left. profileOf (u .config) ≡ strict → stores row u offset width value .runs ≡ true →
       CBASER·Valid of stores row u offset width value .registers .cbaser ≡ 0 → OnlyStores row u (stores row u offset width value) r left)
+  -- STRICT: a stalled unit runs nothing either, and there is no 5, but for a CWRITER write with Retry (02, A4)
+  pub stalled-stores : OfEveryWrite (λ w row u offset width value r left. profileOf (u .config) ≡ strict → u .registers .stalled ≡ true →
+      stores row u offset width value .runs ≡ true → (offset ≡ GITS-CWRITER → CWRITER·Retry of value ≡ 0) → OnlyStores row u (stores row u offset width value) r left)
+  -- STALLED (02, A4; Stalled): what each write makes of it, refused or not, on every unit, by its access and its answer
+  pub stalled-kept : OfEveryWrite (λ w row u offset width value r left. StalledKept u offset value r)
+  -- a strict unit is stalled exactly if its last run was stopped by a command and neither of the two has cleared it since: over whole runs of accesses
+  pub stalled-exactly : {k : ItsConfig} {u : ItsState} {h : List Command} → (l : Led k u h) → profileOf k ≡ strict → (u .registers .stalled ≡ true) ↔ StoppedSince (trail l)
+  -- and over runs of calls, in the numbers told
+  pub calls-stalled-exactly : {k : ItsConfig} {u : ItsState} {h : List Command} → (l : LedByCalls k u h) → profileOf k ≡ strict →
+      (u .registers .stalled ≡ true) ↔ StoppedSince (trailTold l)
+  -- and reads of CREADR show it
+  pub stalled-shown : (u : ItsState) → soundUnit u ≡ true → StalledShown u
   -- A PROFILE THAT THERE IS NOT is refused with 1: any number above 1
   pub no-such-profile : (k : ItsConfig) (c : Configured) → Configures k c → 1 < k .profile → c .verdict ≡ Refused Unsound
   -- by its_configure too
@@ -98,7 +111,7 @@ pub record Theorems : Type 0 where
       CallConfigures (limit ∷ budget ∷ frame ∷ 0 ∷ []) ps u r told → CallConfigures (limit ∷ budget ∷ frame ∷ 1 ∷ []) ps v r′ told′ →
       (r′ ≡ r) × (told′ ≡ told) × (r ≡ 0 → LedAlike (configGiven (limit ∷ budget ∷ frame ∷ []) ps) u v)
   pub calls-go-on : {k : ItsConfig} {u v : ItsState} → LedAlike k u v → (w : Window) (row : List ℕ) (offset width value : ℕ) →
-      CommonWrite w u (stores (map actionIn row) u offset width value) → (left left′ : ItsState) (after after′ : List ℕ) (r r′ : ℕ) (told told′ : List ℕ) →
+      CommonWrite w (map actionIn row) u offset width value → (left left′ : ItsState) (after after′ : List ℕ) (r r′ : ℕ) (told told′ : List ℕ) →
       CallWrites w row u offset width value left after r told → CallWrites w row v offset width value left′ after′ r′ told′ → LedAlike k left left′
   -- and its_trace returns and writes the same for a trace and for the same one with its configurations in strict (Traces)
   pub traces-alike : (trace trace′ out : List ℕ) (r r′ : ℕ) (left left′ : List ℕ) → Traced trace out r left → Traced trace′ out r′ left′ →
@@ -167,7 +180,7 @@ pub record Theorems : Type 0 where
   pub no-unit-answers-1 : (u : ItsState) → NoUnit u → AnswersOne u
   -- and the one that a refused configuration gives; its refusal is 1
   pub refused-configuration : (k : ItsConfig) (c : Configured) → Configures k c → (why : Refusal) → c .verdict ≡ Refused why → (why ≡ Unsound) × AnswersOne (c .unit)
-  -- A LATER WRITE TRIES AGAIN (Retries): one that runs the queue begins with the command on which CREADR stands
+  -- A LATER WRITE TRIES AGAIN (Retries): one that runs the queue begins with the command on which CREADR stands. In strict that is one with Retry
   pub tries-again : OfEveryWrite (λ w row u offset width value r left. Tries u (stores row u offset width value) →
       TriesAgain w row u (stores row u offset width value) r left)
   -- after a write that was refused because of that command

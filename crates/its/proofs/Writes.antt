@@ -12,19 +12,18 @@ use Rattle.model.specs.declared.ItsConfig.{ItsConfig}
 use Rattle.model.specs.declared.ItsState.{ItsState}
 use Rattle.model.specs.declared.ItsAction.{ItsAction}
 use Rattle.model.specs.declared.RegisterWrite.{RegisterWrite}
-use Rattle.model.specs.declared.Refusal.the-variants.{BudgetExceeded}
 use Rattle.model.specs.declared.Written.{Written}
 use Rattle.model.specs.Refusal.{writeNumbers}
 use Rattle.model.specs.With.{withRegisters}
 use Rattle.model.specs.Config.{sizesIn01, soundConfig, soundUnit}
-use Rattle.model.specs.Queue.{Window, waiting, run, mayRun}
+use Rattle.model.specs.Queue.{Window, waiting, run, halting, mayRun}
 use Rattle.model.specs.Entry.{afterRun, running, stores, write}
 use Rattle.model.proofs.Cases.{cases, never, and-left, and-right}
 use Rattle.model.proofs.RunLaws.{sound-stands}
 use Rattle.model.proofs.Answers.{queue-runs, queue-over, queue-off}
 use Rattle.model.proofs.Ways.{runs-ready}
 use Rattle.answers.specs.declared.Counts.{Counts}
-use Rattle.answers.specs.Counting.{begun, halted}
+use Rattle.answers.specs.Counting.{begun, over}
 use Rattle.queue.specs.declared.Progress.{Progress}
 use Rattle.queue.specs.Ongoing.{Begun, progressOf, startOf, endOf}
 use Rattle.model.proofs.Profiles.{sizes-of}
@@ -50,7 +49,7 @@ module _ (w : Window) (row : List ItsAction) (u : ItsState) (sound : soundUnit u
       let most = budget-most (u .config) (and-left (soundConfig (u .config)) _ sound) in
       record { starts = λ _. refl; few = λ _. omega arith; room-left = λ _. omega arith; stands = λ _. sound-stands u sound }
 
-  end-begun : (n : ℕ) → endOf w (from (begun n)) row ≡ afterRun (run w n u) row
+  end-begun : (n : ℕ) → endOf w (from (begun n)) row ≡ afterRun (halting (run w n u)) row
   end-begun zero = refl
   end-begun (suc n) = rw (lt-ltb 0 (suc n) (omega arith)) refl
 
@@ -74,7 +73,7 @@ module _ (w : Window) (row : List ItsAction) (u : ItsState) (sound : soundUnit u
       cases (mayRun (u .config) (u .registers))
       (λ on. cases fits
       (λ l. subst (λ n. Begun (from n) (length row)) (counts-on u on refl (leb-true _ _ l)) (begun-on (waiting (u .registers)) (leb-true _ _ l)))
-      (λ l. subst (λ n. Begun (from n) (length row)) (counts-over u on refl (leb-false _ _ l)) (begun-none (halted BudgetExceeded) refl)))
+      (λ l. subst (λ n. Begun (from n) (length row)) (counts-over u on refl (leb-false _ _ l)) (begun-none over refl)))
       (λ off. subst (λ n. Begun (from n) (length row)) (counts-off u off) (begun-none (begun 0) refl))
 
   starts-to : endOf w (startOf u) row ≡ running w u row

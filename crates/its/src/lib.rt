@@ -37,6 +37,7 @@ fn fresh_registers() -> ItsRegisters
 {
     ItsRegisters {
         enabled: false,
+        stalled: false,
         cbaser: 0,
         creadr: 0,
         cwriter: 0,

@@ -47,13 +47,14 @@ fn waiting(state: &Numbers) -> u64
         / 32
 }
 
-// The queue runs in an enabled unit; in strict only where CBASER's bit 63 is set.
+// The queue runs in an enabled unit; in strict only where CBASER's bit 63 is set and the unit is not stalled.
 fn may_run(state: &Numbers) -> bool
     ensures { λ r. ⌜ r ≡ mayRun (configIn (now (state .entry))) (registersIn (now (state .entry))) ⌝ }
 {
     let profile = lent_tables::profile_in(state);
     let valid = state[lent_tables::CBASER] / 0x8000_0000_0000_0000 % 2;
-    let held = (profile == 1) & (valid == 0);
+    let stalled = state[lent_tables::STALLED] % 2 == 1;
+    let held = (profile == 1) & ((valid == 0) | stalled);
     let enabled = state[lent_tables::ENABLED] % 2 == 1;
     enabled & !held
 }
@@ -116,7 +117,7 @@ fn run(state: &mut Numbers, address: u64, bytes: &[u8], row: &mut [u64], count: 
     answers::answer_of(n, state[lent_tables::CREADR])
 }
 
-// A queue that may run is run: 5 is tested once, then each command in turn.
+// A queue that may run is run: 5 is tested once, then each command in turn; one that is refused stalls the unit.
 pub fn process_commands(
     state: &mut Numbers,
     address: u64,
@@ -143,5 +144,9 @@ pub fn process_commands(
             actions: 0,
         };
     }
-    run(state, address, bytes, row, count)
+    let answer = run(state, address, bytes, row, count);
+    if answers::is_refused(answer) {
+        lent_tables::stall(state);
+    }
+    answer
 }

@@ -24,6 +24,7 @@ use Rattle.lent_tables.specs.Numbers.{
   PROCESSOR-COUNT,
   PROCESSORS,
   REGISTERS,
+  STALLED,
   ENABLED,
   CBASER,
   CREADR,
@@ -105,6 +106,7 @@ module _ {s t : List ℕ} where
   unfolding registersIn
   registers-same h =
       rw (
+        h .at STALLED (omega arith) (omega arith),
         h .at ENABLED (omega arith) (omega arith),
         h .at CBASER (omega arith) (omega arith),
         h .at CREADR (omega arith) (omega arith),

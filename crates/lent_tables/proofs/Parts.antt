@@ -8,53 +8,54 @@ use mathlib.Core.List.{List, [], _∷_, _++_}
 use lib.Dec.{eqb}
 use lib.ListN.{length, getD, set}
 use lib.Seq.{getD-set-same, getD-set-other, sets}
-use Rattle.model.specs.Choose.{if_then_else_}
 use Rattle.model.specs.declared.GicVcpuId.{GicVcpuId}
 use Rattle.model.specs.declared.ItsConfig.{ItsConfig}
 use Rattle.model.specs.declared.ItsRegisters.{ItsRegisters}
-use Rattle.model.specs.With.{aConfig, withConfig, withRegisters, withProcessors}
+use Rattle.model.specs.With.{aConfig, withConfig, withRegisters, withStalled, withProcessors}
+use Rattle.model.specs.Profile.{isStrict}
+use Rattle.model.specs.Register.{oneIf}
 use Rattle.model.specs.Config.{noConfig}
-use Rattle.model.specs.Queue.{pastCommand}
-use Rattle.lent_tables.specs.Numbers.{NUMBERS, LAYOUT, LAYOUT-NUMBER, LPI-LIMIT, COMMAND-BUDGET, FRAME-SIZE, PROFILE, PROCESSOR-COUNT, PROCESSORS, REGISTERS, ENABLED, CBASER, CREADR, CWRITER, BASERS, processorAt, word, rows, laidOut, settingAt, configAt, configIn, registersIn, unitIn}
+use Rattle.model.specs.Queue.{pastCommand, stall}
+use Rattle.lent_tables.specs.Numbers.{NUMBERS, LAYOUT, LAYOUT-NUMBER, LPI-LIMIT, COMMAND-BUDGET, FRAME-SIZE, PROFILE, PROCESSOR-COUNT, PROCESSORS, REGISTERS, STALLED, ENABLED, CBASER, CREADR, CWRITER, BASERS, processorAt, word, rows, laidOut, settingAt, configAt, configIn, registersIn, unitIn}
 use Rattle.model.proofs.Cases.{cases}
 use Rattle.lent_tables.proofs.Rows.{rows-same, rows-list, sets-at}
 use Rattle.lent_tables.proofs.Outside.{Outside, outside-set, outside-sets, config-changed, registers-changed}
 
--- The registers' twelve numbers.
-abbrev pub numbersOf : ℕ → ItsRegisters → List ℕ
-numbersOf x r =
-    x ∷ r .cbaser ∷ r .creadr ∷ r .cwriter ∷
+-- The registers' thirteen numbers.
+abbrev pub numbersOf : ItsRegisters → List ℕ
+numbersOf r =
+    oneIf (r .stalled) ∷ oneIf (r .enabled) ∷ r .cbaser ∷ r .creadr ∷ r .cwriter ∷
     getD (r .basers) 0 0 ∷ getD (r .basers) 1 0 ∷ getD (r .basers) 2 0 ∷ getD (r .basers) 3 0 ∷
     getD (r .basers) 4 0 ∷ getD (r .basers) 5 0 ∷ getD (r .basers) 6 0 ∷ getD (r .basers) 7 0 ∷ []
 
-pub one-or-none : (b : Bool) {x : ℕ} → x ≡ (if b then 1 else 0) → eqb (x % 2) 1 ≡ b
-one-or-none true e = rw e
-one-or-none false e = rw e
+one-or-none : (b : Bool) → eqb (oneIf b % 2) 1 ≡ b
+one-or-none true = refl
+one-or-none false = refl
 
--- the eight BASER stand behind the first four
-eight : (x : ℕ) (r : ItsRegisters) (i : ℕ) → i < 8 → getD (numbersOf x r) (4 + i) 0 ≡ getD (r .basers) i 0
-eight x r zero h = refl
-eight x r (suc zero) h = refl
-eight x r (suc (suc zero)) h = refl
-eight x r (suc (suc (suc zero))) h = refl
-eight x r (suc (suc (suc (suc zero)))) h = refl
-eight x r (suc (suc (suc (suc (suc zero))))) h = refl
-eight x r (suc (suc (suc (suc (suc (suc zero)))))) h = refl
-eight x r (suc (suc (suc (suc (suc (suc (suc zero))))))) h = refl
-eight x r (suc (suc (suc (suc (suc (suc (suc (suc i)))))))) h = absurd (omega arith)
+-- the eight BASER stand behind the first five
+eight : (r : ItsRegisters) (i : ℕ) → i < 8 → getD (numbersOf r) (5 + i) 0 ≡ getD (r .basers) i 0
+eight r zero h = refl
+eight r (suc zero) h = refl
+eight r (suc (suc zero)) h = refl
+eight r (suc (suc (suc zero))) h = refl
+eight r (suc (suc (suc (suc zero)))) h = refl
+eight r (suc (suc (suc (suc (suc zero))))) h = refl
+eight r (suc (suc (suc (suc (suc (suc zero)))))) h = refl
+eight r (suc (suc (suc (suc (suc (suc (suc zero))))))) h = refl
+eight r (suc (suc (suc (suc (suc (suc (suc (suc i)))))))) h = absurd (omega arith)
 
-module _ (s : List ℕ) (long : length s ≡ NUMBERS) (x : ℕ) (r : ItsRegisters) (on : eqb (x % 2) 1 ≡ r .enabled) (all : length (r .basers) ≡ 8) where
+module _ (s : List ℕ) (long : length s ≡ NUMBERS) (r : ItsRegisters) (all : length (r .basers) ≡ 8) where
   t : List ℕ
-  t = sets s REGISTERS (numbersOf x r)
+  t = sets s REGISTERS (numbersOf r)
 
-  at : (j : ℕ) → j < 12 → word t (REGISTERS + j) ≡ getD (numbersOf x r) j 0
+  at : (j : ℕ) → j < 13 → word t (REGISTERS + j) ≡ getD (numbersOf r) j 0
   unfolding t
-  at j h = sets-at s REGISTERS (numbersOf x r) j (omega arith) (omega arith)
+  at j h = sets-at s REGISTERS (numbersOf r) j (omega arith) (omega arith)
 
   baser : (i : ℕ) → i < 8 → word t (BASERS + i) ≡ getD (r .basers) i 0
   baser i h =
-      let e : BASERS + i ≡ REGISTERS + (4 + i) = omega arith in
-      ap (word t) e ∙ at (4 + i) (omega arith) ∙ eight x r i h
+      let e : BASERS + i ≡ REGISTERS + (5 + i) = omega arith in
+      ap (word t) e ∙ at (5 + i) (omega arith) ∙ eight r i h
 
   stored : registersIn t ≡ r
   unfolding registersIn
@@ -64,13 +65,15 @@ module _ (s : List ℕ) (long : length s ≡ NUMBERS) (x : ℕ) (r : ItsRegister
         at 1 (omega arith),
         at 2 (omega arith),
         at 3 (omega arith),
-        on,
+        at 4 (omega arith),
+        one-or-none (r .stalled),
+        one-or-none (r .enabled),
         rows-list 8 (λ i. word t (BASERS + i)) (r .basers) 0 all baser,
       )
 
-  pub registers-put : unitIn (sets s REGISTERS (numbersOf x r)) ≡ withRegisters (unitIn s) r
+  pub registers-put : unitIn (sets s REGISTERS (numbersOf r)) ≡ withRegisters (unitIn s) r
   unfolding t
-  registers-put = registers-changed (outside-sets s REGISTERS (numbersOf x r) (omega arith) (omega arith)) stored
+  registers-put = registers-changed (outside-sets s REGISTERS (numbersOf r) (omega arith) (omega arith)) stored
 
 -- CREADR alone.
 module _ (s : List ℕ) (long : length s ≡ NUMBERS) (w : ℕ) (e : w ≡ pastCommand (registersIn s) .creadr) where
@@ -81,6 +84,7 @@ module _ (s : List ℕ) (long : length s ≡ NUMBERS) (w : ℕ) (e : w ≡ pastC
   unfolding registersIn
   passed =
       rw (
+        kept STALLED (λ q. absurd (omega arith)),
         kept ENABLED (λ q. absurd (omega arith)),
         kept CBASER (λ q. absurd (omega arith)),
         getD-set-same s CREADR w 0 (omega arith),
@@ -91,6 +95,31 @@ module _ (s : List ℕ) (long : length s ≡ NUMBERS) (w : ℕ) (e : w ≡ pastC
 
   pub creadr-put : unitIn (set s CREADR w) ≡ withRegisters (unitIn s) (pastCommand (registersIn s))
   creadr-put = registers-changed (outside-set s CREADR w (omega arith) (omega arith)) passed
+
+-- Stalled alone.
+module _ (s : List ℕ) (long : length s ≡ NUMBERS) where
+  beside : (j : ℕ) → (j ≡ STALLED → ⊥) → word (set s STALLED 1) j ≡ word s j
+  beside j n = getD-set-other s STALLED j 1 0 n
+
+  marked : registersIn (set s STALLED 1) ≡ withStalled (registersIn s) true
+  unfolding registersIn
+  marked =
+      rw (
+        getD-set-same s STALLED 1 0 (omega arith),
+        beside ENABLED (λ q. absurd (omega arith)),
+        beside CBASER (λ q. absurd (omega arith)),
+        beside CREADR (λ q. absurd (omega arith)),
+        beside CWRITER (λ q. absurd (omega arith)),
+        rows-same 8 (λ i. word (set s STALLED 1) (BASERS + i)) (λ i. word s (BASERS + i)) (λ i l. beside (BASERS + i) (λ q. absurd (omega arith))),
+      )
+
+  pub stalled-put : isStrict (configIn s .profile) ≡ true → unitIn (set s STALLED 1) ≡ stall (unitIn s)
+  unfolding stall
+  stalled-put y = rw y (registers-changed (outside-set s STALLED 1 (omega arith) (omega arith)) marked)
+
+  pub stalled-not : isStrict (configIn s .profile) ≡ false → unitIn s ≡ stall (unitIn s)
+  unfolding stall
+  stalled-not n = rw n
 
 -- A configuration is its six parts, and a list its elements.
 pub config-is : {a a′ b b′ c c′ d d′ e e′ : ℕ} {ps ps′ : List GicVcpuId} → a ≡ a′ → b ≡ b′ → c ≡ c′ → d ≡ d′ → e ≡ e′ → ps ≡ ps′ →

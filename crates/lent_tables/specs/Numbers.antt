@@ -32,7 +32,7 @@ LAYOUT = 0
 
 -- the number of the layout that is said here
 abbrev pub LAYOUT-NUMBER : ℕ
-LAYOUT-NUMBER = 1
+LAYOUT-NUMBER = 2
 
 -- the highest LPI
 abbrev pub LPI-LIMIT : ℕ
@@ -58,7 +58,11 @@ PROCESSORS = 6
 
 -- here the configuration ends and the registers begin
 abbrev pub REGISTERS : ℕ
-REGISTERS = 20
+REGISTERS = 19
+
+-- stalled if its lowest bit is set
+abbrev pub STALLED : ℕ
+STALLED = 19
 
 -- enabled if its lowest bit is set
 abbrev pub ENABLED : ℕ
@@ -163,7 +167,8 @@ unfoldable pub configIn : List ℕ → ItsConfig
 configIn s = if laidOut s then configAt s else noConfig
 
 unfoldable pub registersIn : List ℕ → ItsRegisters
-registersIn s = theRegisters (eqb (word s ENABLED % 2) 1) (word s CBASER) (word s CREADR) (word s CWRITER) (rows 8 (λ i. word s (BASERS + i)))
+registersIn s =
+    theRegisters (eqb (word s ENABLED % 2) 1) (eqb (word s STALLED % 2) 1) (word s CBASER) (word s CREADR) (word s CWRITER) (rows 8 (λ i. word s (BASERS + i)))
 
 unfoldable pub devicesIn : List ℕ → List ItsDevice
 devicesIn s = rows DEVICE-RECORDS (λ i. deviceIn (word s (DEVICES + i)))

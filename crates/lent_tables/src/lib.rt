@@ -20,7 +20,8 @@ ghost use lib.ListN.{length, set};
 ghost use Rattle.model.specs.Choose.{if_then_else_};
 ghost use Rattle.model.specs.With.{withConfig, withRegisters, withDevices, withCollections, withTranslations, withProcessors};
 ghost use Rattle.model.specs.Config.{noConfig};
-ghost use Rattle.model.specs.Queue.{pastCommand};
+ghost use Rattle.model.specs.Register.{oneIf};
+ghost use Rattle.model.specs.Queue.{pastCommand, stall as stallOf};
 ghost use Rattle.lent_tables.specs.Numbers.{
   NUMBERS,
   CREADR,
@@ -51,7 +52,7 @@ pub const NUMBERS: usize = 608;
 
 pub const LAYOUT: usize = 0;
 
-pub const LAYOUT_NUMBER: u64 = 1;
+pub const LAYOUT_NUMBER: u64 = 2;
 
 pub const LPI_LIMIT: usize = 1;
 
@@ -64,6 +65,8 @@ pub const PROFILE: usize = 4;
 pub const PROCESSOR_COUNT: usize = 5;
 
 pub const PROCESSORS: usize = 6;
+
+pub const STALLED: usize = 19;
 
 pub const ENABLED: usize = 20;
 
@@ -305,6 +308,7 @@ pub fn config_in(state: &Numbers) -> ItsConfig
 pub fn registers_in(state: &Numbers) -> ItsRegisters
     ensures { λ r. ⌜ r ≡ registersIn (now (state .entry)) ⌝ }
 {
+    let stalled = state[STALLED] % 2 == 1;
     let enabled = state[ENABLED] % 2 == 1;
     let basers = [
         state[BASERS],
@@ -318,6 +322,7 @@ pub fn registers_in(state: &Numbers) -> ItsRegisters
     ];
     ItsRegisters {
         enabled: enabled,
+        stalled: stalled,
         cbaser: state[CBASER],
         creadr: state[CREADR],
         cwriter: state[CWRITER],
@@ -359,13 +364,21 @@ pub fn put_config(state: &mut Numbers, config: ItsConfig)
     put_processors(state, processors);
 }
 
+fn bit_word(set: bool) -> u64
+    ensures { λ r. ⌜ r ≡ oneIf set ⌝ }
+{
+    if set { 1 } else { 0 }
+}
+
 pub fn put_registers(state: &mut Numbers, registers: ItsRegisters)
     ensures { λ _. ⌜ unitIn (now (state .exit)) ≡ withRegisters (unitIn (now (state .entry))) registers ⌝ }
 {
     let _all = whole(state);
     let basers = registers.basers;
-    let enabled = registers.enabled;
-    state[ENABLED] = if enabled { 1 } else { 0 };
+    let stalled = bit_word(registers.stalled);
+    let enabled = bit_word(registers.enabled);
+    state[STALLED] = stalled;
+    state[ENABLED] = enabled;
     state[CBASER] = registers.cbaser;
     state[CREADR] = registers.creadr;
     state[CWRITER] = registers.cwriter;
@@ -388,6 +401,16 @@ pub fn pass_command(state: &mut Numbers)
     let size = words::queue_size(state[CBASER]);
     let next = state[CREADR] + 32;
     state[CREADR] = next % size;
+}
+
+// A refused command stalls the unit, in strict.
+pub fn stall(state: &mut Numbers)
+    ensures { λ _. ⌜ unitIn (now (state .exit)) ≡ stallOf (unitIn (now (state .entry))) ⌝ }
+{
+    let _all = whole(state);
+    if profile_in(state) == 1 {
+        state[STALLED] = 1;
+    }
 }
 
 // A record of a table, stored.

@@ -1,11 +1,12 @@
 -- Where the profiles agree (specs/Common.antt) the strict unit answers what the base unit does, and leaves the same but for the profile.
 -- Assumes nothing.
-use Prim.Native.Nat.{ℕ, zero, suc, _≤_, _<_}
+use Prim.Native.Nat.{ℕ, zero, suc, _-_, _≤_, _<_}
 use native.Mathlib.Omega.{arith}
 use mathlib.Core.Path.{_≡_, refl, sym, ap, ap₂, _∙_}
-use mathlib.Core.Bool.{true}
+use mathlib.Core.Bool.{true, false}
 use mathlib.Core.List.{List, []}
 use mathlib.Core.Option.{none, some}
+use lib.ListN.{length}
 use lib.Dec.{leb, eqb}
 use borrow.Author.Tests.{le-leb, eqb-true, eqb-false, leb-true}
 use Rattle.model.specs.declared.ItsDeviceId.{ItsDeviceId}
@@ -14,27 +15,32 @@ use Rattle.model.specs.declared.ItsConfig.{ItsConfig}
 use Rattle.model.specs.declared.ItsRegisters.{ItsRegisters}
 use Rattle.model.specs.declared.ItsState.{ItsState}
 use Rattle.model.specs.declared.ItsAction.{ItsAction}
+use Rattle.model.specs.declared.Register.{Register}
+use Rattle.model.specs.declared.Register.the-variants.{Ctlr, Iidr, Typer, Cbaser, Cwriter, Creadr, Baser, Reserved}
 use Rattle.model.specs.declared.RegisterWrite.{RegisterWrite}
 use Rattle.model.specs.declared.Command.{Command}
 use Rattle.model.specs.declared.Refusal.the-variants.{Unsound}
 use Rattle.model.specs.declared.Verdict.{Verdict}
 use Rattle.model.specs.declared.Verdict.the-variants.{Accepted, Refused}
 use Rattle.model.specs.Choose.{if_then_else_}
-use Rattle.model.specs.Arm.{_of_, CBASER·Valid}
+use Rattle.model.specs.Arm.{_of_, _in-place_, CBASER·Valid, CWRITER·Retry, GITS-CWRITER}
 use Rattle.model.specs.With.{withRegisters, withProfile}
-use Rattle.model.specs.Config.{sizesIn01, soundConfig}
+use Rattle.model.specs.Config.{sizesIn01, soundConfig, soundRing}
 use Rattle.model.specs.Step.{deliveryIn, actionsOf}
 use Rattle.model.specs.Queue.{Window, waiting, Turn, passes, stays, turn, carryOut, ended, andThen, goOn, run, held, mayRun, runQueue}
 use Rattle.model.specs.Passed.{commandHere}
-use Rattle.model.specs.Register.{registerAt}
-use Rattle.model.specs.Access.{checkAccess, checkRead, checkWrite}
-use Rattle.model.specs.Writing.{registerWrite}
+use Rattle.model.specs.Register.{registerAt, creadrValue, writtenBy, valueWritten}
+use Rattle.model.specs.Access.{checkAccess, checkRead, checkWrite, ifAccepted}
+use Rattle.model.specs.Writing.{refusing, toCbaser, retries, offered, toCwriter, writeRegister, registerWrite}
 use Rattle.model.specs.Entry.{Outcome, afterRun, readFrom, read, translate, running, concluded, stores, configure, write}
-use Rattle.model.specs.Common.{inProfile, Common, CommonRun, CommonWrite}
-use Rattle.model.proofs.Cases.{cases, never}
+use Rattle.model.specs.In01.{valueIn01, readIn01, writeRegisterIn01, storesIn01}
+use Rattle.model.specs.Common.{inProfile, Common, CommonRun, CommonQueue, CommonWrite}
+use Rattle.model.proofs.Cases.{cases, never, and-right}
 use Rattle.model.proofs.Answers.{queue-runs, queue-over, queue-off}
-use Rattle.model.proofs.AnyProfile.{same-actions, same-turn, same-carried, ranIn, any-sizes, any-read, any-value}
-use Rattle.model.proofs.Profiles.{Plain, plain-common, turn-in-01, carried-in-01, base-is, sizes-only, off-may, valid-may}
+use Rattle.model.proofs.AnyProfile.{same-actions, same-turn, same-carried, ranIn, any-sizes, any-reads, any-stores}
+use Rattle.model.proofs.Stalled.{base-stored}
+use Rattle.model.proofs.Profiles.{Plain, plain-common, turn-in-01, carried-in-01, base-known, sizes-only, off-may, valid-may, creadr-plain, halting-none, base-reads, base-stores}
+use Rattle.model.proofs.Retry.{retry-of, checks-taken}
 
 -- a command on which the profiles agree is one for both
 same-common : (m : ℕ) (u : ItsState) (x : Command) → Common u x → Common (inProfile m u) x
@@ -74,25 +80,68 @@ by-size : (n : ℕ) → (n ≡ 0 → ⊥) → 0 < n
 by-size zero h = absurd (h refl)
 by-size (suc n) h = omega arith
 
--- THE STRICT UNIT BESIDE THE BASE UNIT u.
-module _ (u : ItsState) (b : u .config .profile ≡ 0) where
+-- THE STRICT UNIT BESIDE THE BASE UNIT u, neither of which is stalled.
+module _ (u : ItsState) (b : u .config .profile ≡ 0) (clear : u .registers .stalled ≡ false) where
   abbrev v : ItsState
   v = inProfile 1 u
 
   same-sizes : soundConfig (v .config) ≡ soundConfig (u .config)
-  same-sizes = sizes-only (v .config) refl ∙ (any-sizes (u .config) 1 ∙ sym (sizes-only (u .config) (base-is (u .config) b)))
+  same-sizes = sizes-only (v .config) refl ∙ (any-sizes (u .config) 1 ∙ sym (sizes-only (u .config) (base-known (u .config) b)))
+
+  plain-creadr : creadrValue (v .config) (v .registers) ≡ v .registers .creadr
+  plain-creadr = creadr-plain (v .config) (v .registers) clear
+
+  -- both read what 01's unit reads
+  plain-reads : (offset width : ℕ) → read v offset width ≡ readIn01 v offset width
+  unfolding readFrom checkRead readIn01
+  plain-reads offset width = rw (sizes-only (v .config) refl, plain-creadr)
 
   pub same-reads : (offset width : ℕ) → read v offset width ≡ read u offset width
-  unfolding readFrom checkRead checkAccess
-  same-reads offset width = rw (same-sizes, any-read 1 u offset width (registerAt offset))
+  same-reads offset width = plain-reads offset width ∙ (any-reads 1 u offset width ∙ sym (base-reads u b offset width))
 
   pub same-translates : (d : ItsDeviceId) (e : EventId) → translate v d e ≡ translate u d e
   unfolding translate deliveryIn
   same-translates d e = rw same-sizes
 
-  pub same-stores : (row : List ItsAction) (offset width value : ℕ) → stores row v offset width value ≡ stores row u offset width value
-  unfolding registerWrite checkWrite checkAccess
-  same-stores row offset width value = rw (same-sizes, any-value 1 u offset width value (registerAt offset))
+  -- both store what 01's unit stores, where a write of CWRITER has no bit 0
+  plain-register : (value : ℕ) (n : Register) → (n ≡ Cwriter → CWRITER·Retry of value ≡ 0) → writeRegister (v .config) (v .registers) value n ≡ writeRegisterIn01 (v .registers) value n
+  unfolding toCbaser toCwriter offered retries
+  plain-register value Ctlr n = refl
+  plain-register value Iidr n = refl
+  plain-register value Typer n = refl
+  plain-register value Cbaser n = rw clear
+  plain-register value Cwriter n =
+      let whole : value - CWRITER·Retry in-place value ≡ value = omega (arith, n refl) in
+      rw (whole, n refl)
+  plain-register value Creadr n = refl
+  plain-register value (Baser m) n = refl
+  plain-register value Reserved n = refl
+
+  module _ (row : List ItsAction) (offset width value : ℕ) (no-retry : offset ≡ GITS-CWRITER → CWRITER·Retry of value ≡ 0) where
+    no-bit : checkAccess (v .config) offset width ≡ Accepted → soundRing (v .registers) ≡ true → registerAt offset ≡ Cwriter →
+        CWRITER·Retry of writtenBy (valueIn01 v) offset width value (registerAt offset) ≡ 0
+    no-bit taken ring at =
+        rw at
+        (retry-of (v .config) offset width taken at (v .registers) ring value
+        ∙ cases (eqb offset GITS-CWRITER) (λ y. rw y (no-retry (eqb-true offset GITS-CWRITER y))) (λ n. rw n))
+
+    by-verdict : (d : Verdict) → checkWrite (v .config) (v .registers) (length row) offset width ≡ d →
+        ifAccepted d (writeRegister (v .config) (v .registers) (valueWritten (v .config) (v .registers) offset width value (registerAt offset)) (registerAt offset)) (refusing (v .registers) 0)
+        ≡ ifAccepted d (writeRegisterIn01 (v .registers) (writtenBy (valueIn01 v) offset width value (registerAt offset)) (registerAt offset)) (refusing (v .registers) 0)
+    by-verdict (Refused why) c = refl
+    by-verdict Accepted c =
+        let taken = checks-taken (v .config) (v .registers) (length row) offset width c in
+        let ring = and-right (soundConfig (v .config)) _ (taken .is-sound) in
+        rw plain-creadr
+        (plain-register (writtenBy (valueIn01 v) offset width value (registerAt offset)) (registerAt offset)
+        (no-bit (taken .access) ring))
+
+    plain-stores : stores row v offset width value ≡ storesIn01 row v offset width value
+    unfolding registerWrite checkWrite storesIn01
+    plain-stores = by-verdict (checkWrite (v .config) (v .registers) (length row) offset width) refl ∙ rw (sizes-only (v .config) refl)
+
+    pub same-stores : stores row v offset width value ≡ stores row u offset width value
+    same-stores = plain-stores ∙ (any-stores 1 u row offset width value ∙ sym (base-stores u b row offset width value))
 
   -- the run
   module _ (w : Window) (r : ItsRegisters) where
@@ -108,8 +157,10 @@ module _ (u : ItsState) (b : u .config .profile ≡ 0) where
     none-waits x e z = rw (e, z, le-leb 0 (x .config .«command_budget») (omega arith)) (cases (mayRun (x .config) r) (λ y. rw y) (λ n. rw n))
 
     same-queue : (r .enabled ≡ true → 0 < waiting r → CBASER·Valid of r .cbaser ≡ 1) →
-        (r .enabled ≡ true → waiting r ≤ u .config .«command_budget» → CommonRun w (waiting r) u₁) → runQueue w (inProfile 1 u₁) ≡ ranIn 1 (runQueue w u₁)
-    same-queue bit63 c =
+        (r .enabled ≡ true → waiting r ≤ u .config .«command_budget» → CommonRun w (waiting r) u₁) →
+        (r .enabled ≡ true → waiting r ≤ u .config .«command_budget» → run w (waiting r) u₁ .stopped ≡ none) → r .stalled ≡ false →
+        runQueue w (inProfile 1 u₁) ≡ ranIn 1 (runQueue w u₁)
+    same-queue bit63 c goes clear =
         cases (r .enabled)
         (λ on. cases (eqb (waiting r) 0)
         (λ z. none-waits (inProfile 1 u₁) refl (eqb-true (waiting r) 0 z) ∙ sym (ap (ranIn 1) (none-waits u₁ refl (eqb-true (waiting r) 0 z))))
@@ -117,38 +168,43 @@ module _ (u : ItsState) (b : u .config .profile ≡ 0) where
         let some-wait : waiting r ≡ 0 → ⊥ = eqb-false (waiting r) 0 n in
         let valid = bit63 on (by-size (waiting r) some-wait) in
         cases (leb (waiting r) (u .config .«command_budget»))
-        (λ l. queue-runs w (inProfile 1 u₁) (valid-may (v .config) r on valid) l
-        ∙ (common-run 1 w (waiting r) u₁ (c on (leb-true _ _ l)) ∙ sym (ap (ranIn 1) (queue-runs w u₁ (base-runs on) l))))
-        (λ l. queue-over w (inProfile 1 u₁) (valid-may (v .config) r on valid) l ∙ sym (ap (ranIn 1) (queue-over w u₁ (base-runs on) l)))))
+        (λ l.
+        let same = common-run 1 w (waiting r) u₁ (c on (leb-true _ _ l)) in
+        let none-stopped = goes on (leb-true _ _ l) in
+        queue-runs w (inProfile 1 u₁) (valid-may (v .config) r on valid clear) l
+        ∙ (halting-none (run w (waiting r) (inProfile 1 u₁)) (ap (λ q. q .stopped) same ∙ none-stopped)
+        ∙ (same ∙ sym (ap (ranIn 1) (queue-runs w u₁ (base-runs on) l ∙ halting-none (run w (waiting r) u₁) none-stopped)))))
+        (λ l. queue-over w (inProfile 1 u₁) (valid-may (v .config) r on valid clear) l ∙ sym (ap (ranIn 1) (queue-over w u₁ (base-runs on) l)))))
         (λ off. queue-off w (inProfile 1 u₁) (off-may (v .config) r off) ∙ sym (ap (ranIn 1) (queue-off w u₁ (off-may (u .config) r off))))
 
   -- a write: the same answer and row, and the unit with the strict profile
   abbrev pub strictly : Outcome → Outcome
   strictly o = record { written = record { unit = inProfile 1 (o .written .unit); answer = o .written .answer }; row = o .row }
 
-  same-run : (w : Window) (row : List ItsAction) (s : RegisterWrite) → CommonWrite w u s → s .runs ≡ true → running w (withRegisters v (s .registers)) row ≡ strictly (running w (withRegisters u (s .registers)) row)
-  unfolding running
-  same-run w row s c on = ap (λ q. afterRun q row) (same-queue w (s .registers) (c .bit63 on) (c .commands on))
+  module _ (w : Window) (row : List ItsAction) (offset width value : ℕ) (c : CommonWrite w row u offset width value) where
+    abbrev s : RegisterWrite
+    s = stores row u offset width value
 
-  same-end : (w : Window) (row : List ItsAction) (s : RegisterWrite) → CommonWrite w u s → concluded w row v s ≡ strictly (concluded w row u s)
-  same-end w row s c = cases (s .runs) (λ on. rw on (same-run w row s c on)) (λ off. rw off)
+    -- base neither sets nor clears Stalled
+    stays-clear : s .registers .stalled ≡ false
+    stays-clear = base-stored u offset width value row (rw b) ∙ clear
 
-  pub same-writes : (w : Window) (row : List ItsAction) (offset width value : ℕ) → CommonWrite w u (stores row u offset width value) →
-      write w row v offset width value ≡ strictly (write w row u offset width value)
-  unfolding write
-  same-writes w row offset width value c = rw (same-stores row offset width value) (same-end w row (stores row u offset width value) c)
+    same-run : s .runs ≡ true → runQueue w (withRegisters v (s .registers)) ≡ ranIn 1 (runQueue w (withRegisters u (s .registers)))
+    same-run on = same-queue w (s .registers) (c .queue .bit63 on) (c .queue .commands on) (c .queue .none-refused on) stays-clear
 
-  -- and the same actions
-  made-same : (w : Window) (s : RegisterWrite) → CommonWrite w u s → s .runs ≡ true →
-      runQueue w (withRegisters v (s .registers)) .actions ≡ runQueue w (withRegisters u (s .registers)) .actions
-  made-same w s c on = ap (λ q. q .actions) (same-queue w (s .registers) (c .bit63 on) (c .commands on))
+    same-end : concluded w row v s ≡ strictly (concluded w row u s)
+    unfolding running
+    same-end = cases (s .runs) (λ on. rw on (ap (λ q. afterRun q row) (same-run on))) (λ off. rw off)
 
-  pub same-made : (w : Window) (row : List ItsAction) (offset width value : ℕ) → CommonWrite w u (stores row u offset width value) →
-      (if stores row v offset width value .runs then runQueue w (withRegisters v (stores row v offset width value .registers)) .actions else [])
-      ≡ (if stores row u offset width value .runs then runQueue w (withRegisters u (stores row u offset width value .registers)) .actions else [])
-  same-made w row offset width value c =
-      let s = stores row u offset width value in
-      rw (same-stores row offset width value) (cases (s .runs) (λ on. rw on (made-same w s c on)) (λ off. rw off))
+    pub same-writes : write w row v offset width value ≡ strictly (write w row u offset width value)
+    unfolding write
+    same-writes = rw (same-stores row offset width value (c .no-retry)) same-end
+
+    -- and the same actions
+    pub same-made : (if stores row v offset width value .runs then runQueue w (withRegisters v (stores row v offset width value .registers)) .actions else [])
+        ≡ (if s .runs then runQueue w (withRegisters u (s .registers)) .actions else [])
+    same-made =
+        rw (same-stores row offset width value (c .no-retry)) (cases (s .runs) (λ on. rw on (ap (λ q. q .actions) (same-run on))) (λ off. rw off))
 
 -- a configuration of both is accepted or refused, and what is accepted is the same fresh unit
 pub same-verdict : (k : ItsConfig) → configure (withProfile k 1) .verdict ≡ configure (withProfile k 0) .verdict

@@ -1,4 +1,5 @@
--- What the answer of a write says of the run of its queue, and what becomes of the queue: it is run whole, or nothing is run.
+-- What the answer of a write says of the run of its queue, what a command that stopped it leaves, and what becomes of the queue: it is run whole, or nothing
+-- is run.
 -- Assumes nothing.
 use Prim.Native.Nat.{ℕ}
 use mathlib.Core.Path.{_≡_, refl, sym, ap, ap₂}
@@ -14,9 +15,10 @@ use Rattle.model.specs.declared.Refusal.{Refusal}
 use Rattle.model.specs.declared.Refusal.the-variants.{BudgetExceeded}
 use Rattle.model.specs.declared.WriteAnswer.{WriteAnswer}
 use Rattle.model.specs.declared.WriteAnswer.the-variants.{Taken, NotTaken}
-use Rattle.model.specs.Choose.{if_then_else_, _or_then_}
+use Rattle.model.specs.Choose.{if_then_else_, _or_then_, ifFound}
 use Rattle.model.specs.Refusal.{writeNumbers}
-use Rattle.model.specs.Queue.{Window, waiting, Stop, Ran, ended, run, mayRun, runQueue}
+use Rattle.model.specs.Queue.{Window, waiting, Stop, Ran, ended, run, stall, halting, mayRun, runQueue}
+use Rattle.model.specs.With.{unitStalled}
 use Rattle.model.specs.Entry.{answerOf, afterRun}
 use Rattle.model.specs.Trace.{actionLine, writeLine, writeLines}
 use Rattle.model.proofs.Cases.{never}
@@ -54,6 +56,26 @@ pub taken-of : (q : Ran) (o : Option Stop) (done actions : ℕ) → answerFor q 
 taken-of q none done actions h = refl
 taken-of q (some s) done actions h = never true refl (cc)
 
+-- What a command that stopped a run leaves: Stalled, and nothing else changes.
+module _ (q : Ran) where
+  unit-for : (o : Option Stop) →
+      ifFound o (λ s. stall (q .unit)) (q .unit) ≡ unitStalled (q .unit) (ifFound o (λ s. stall (q .unit)) (q .unit) .registers .stalled)
+  unfolding stall
+  unit-for none = refl
+  unit-for (some s) = refl
+
+  pub halted-unit : halting q .unit ≡ unitStalled (q .unit) (halting q .unit .registers .stalled)
+  halted-unit = unit-for (q .stopped)
+
+  halted-for : (o : Option Stop) →
+      answerOf (record { unit = ifFound o (λ s. stall (q .unit)) (q .unit); done = q .done; actions = q .actions; stopped = o }) ≡ answerFor q o
+  unfolding stall
+  halted-for none = refl
+  halted-for (some s) = refl
+
+  pub halted-answer : answerOf (halting q) ≡ answerOf q
+  halted-answer = halted-for (q .stopped)
+
 -- What becomes of the queue: it runs whole, or nothing runs.
 
 module _ {A : Type 0} (a b : Bool) (x y z : A) where
@@ -70,7 +92,7 @@ module _ (w : Window) (v : ItsState) where
   abbrev pub fits : Bool
   fits = leb (waiting (v .registers)) (v .config .«command_budget»)
 
-  pub queue-runs : mayRun (v .config) (v .registers) ≡ true → fits ≡ true → runQueue w v ≡ run w (waiting (v .registers)) v
+  pub queue-runs : mayRun (v .config) (v .registers) ≡ true → fits ≡ true → runQueue w v ≡ halting (run w (waiting (v .registers)) v)
   unfolding runQueue
   queue-runs = both-hold (mayRun (v .config) (v .registers)) fits _ _ _
 

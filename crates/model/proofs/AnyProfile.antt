@@ -27,10 +27,10 @@ use Rattle.model.specs.Config.{listed, sizesIn01}
 use Rattle.model.specs.Decode.{opcodeOf, decode}
 use Rattle.model.specs.Step.{translationOf, deliveryIn, lpiInRange, checkMapping, checkIn01, storeDevice, storeCollection, storeTranslation, dropDevice, dropCollection, dropPair, movePair, effectIn01, actionsOn, actionsOf}
 use Rattle.model.specs.Queue.{Window, commandAt, waiting, commandAddress, Turn, passes, stays, judged, Ran, andThen}
-use Rattle.model.specs.Register.{registerAt, readOf, valueWritten}
+use Rattle.model.specs.Register.{registerAt, isWide, readPart, readBy, merged, writtenBy}
 use Rattle.model.specs.Access.{checkAccess}
 use Rattle.model.specs.Entry.{Outcome, afterRun}
-use Rattle.model.specs.In01.{configureIn01, readIn01, translateIn01, turnOnIn01, turnIn01, carryOutIn01, goOnIn01, runIn01, runQueueIn01, storesIn01, concludedIn01, writeIn01}
+use Rattle.model.specs.In01.{configureIn01, valueIn01, readIn01, translateIn01, turnOnIn01, turnIn01, carryOutIn01, goOnIn01, runIn01, runQueueIn01, storesIn01, concludedIn01, writeIn01}
 use Rattle.model.specs.Common.{inProfile}
 use Rattle.model.proofs.Cases.{cases}
 
@@ -115,25 +115,21 @@ abbrev pub ranIn : ℕ → Ran → Ran
 ranIn m r = record { unit = inProfile m (r .unit); done = r .done; actions = r .actions; stopped = r .stopped }
 
 module _ (m : ℕ) (u : ItsState) where
-  pub any-read : (offset width : ℕ) (n : Register) → readOf (withProfile (u .config) m) (u .registers) offset width n ≡ readOf (u .config) (u .registers) offset width n
-  any-read offset width Ctlr = refl
-  any-read offset width Iidr = refl
-  any-read offset width Typer = refl
-  any-read offset width Cbaser = refl
-  any-read offset width Cwriter = refl
-  any-read offset width Creadr = refl
-  any-read offset width (Baser n) = refl
-  any-read offset width Reserved = refl
+  any-value : (n : Register) → valueIn01 (inProfile m u) n ≡ valueIn01 u n
+  any-value Ctlr = refl
+  any-value Iidr = refl
+  any-value Typer = refl
+  any-value Cbaser = refl
+  any-value Cwriter = refl
+  any-value Creadr = refl
+  any-value (Baser n) = refl
+  any-value Reserved = refl
 
-  pub any-value : (offset width value : ℕ) (n : Register) → valueWritten (withProfile (u .config) m) (u .registers) offset width value n ≡ valueWritten (u .config) (u .registers) offset width value n
-  any-value offset width value Ctlr = refl
-  any-value offset width value Iidr = refl
-  any-value offset width value Typer = refl
-  any-value offset width value Cbaser = refl
-  any-value offset width value Cwriter = refl
-  any-value offset width value Creadr = refl
-  any-value offset width value (Baser n) = refl
-  any-value offset width value Reserved = refl
+  any-read : (offset width : ℕ) (n : Register) → readBy (valueIn01 (inProfile m u)) offset width n ≡ readBy (valueIn01 u) offset width n
+  any-read offset width n = ap (λ v. if isWide n then readPart offset width v else v) (any-value n)
+
+  any-written : (offset width value : ℕ) (n : Register) → writtenBy (valueIn01 (inProfile m u)) offset width value n ≡ writtenBy (valueIn01 u) offset width value n
+  any-written offset width value n = ap (λ v. if isWide n then merged offset width v value else value) (any-value n)
 
   pub any-reads : (offset width : ℕ) → readIn01 (inProfile m u) offset width ≡ readIn01 u offset width
   unfolding readIn01 checkAccess
@@ -143,9 +139,9 @@ module _ (m : ℕ) (u : ItsState) where
   unfolding translateIn01 deliveryIn
   any-translates d e = rw (any-sizes (u .config) m)
 
-  any-stores : (row : List ItsAction) (offset width value : ℕ) → storesIn01 row (inProfile m u) offset width value ≡ storesIn01 row u offset width value
+  pub any-stores : (row : List ItsAction) (offset width value : ℕ) → storesIn01 row (inProfile m u) offset width value ≡ storesIn01 row u offset width value
   unfolding storesIn01 checkAccess
-  any-stores row offset width value = rw (any-sizes (u .config) m, any-value offset width value (registerAt offset))
+  any-stores row offset width value = rw (any-sizes (u .config) m, any-written offset width value (registerAt offset))
 
 by-tests : {A B : Type 0} (f : A → B) (a b : Bool) {x y z : A} {x′ y′ z′ : B} → x′ ≡ f x → y′ ≡ f y → z′ ≡ f z →
     (if a then (b or x′ then y′) else z′) ≡ f (if a then (b or x then y) else z)

@@ -1,11 +1,14 @@
--- A test holds or fails, and a thing is found or not.
+-- A test holds or fails, a check holds where nothing is refused, and a thing is found or not.
 -- Assumes nothing.
 use Prim.Native.Nat.{ℕ}
 use native.Mathlib.Omega.{arith}
 use mathlib.Core.Path.{_≡_, refl, sym}
 use mathlib.Core.Bool.{Bool, true, false, _&&_}
 use mathlib.Core.Option.{Option, none, some}
-use Rattle.model.specs.Choose.{whenFound, isFound}
+use Rattle.model.specs.declared.Refusal.{Refusal}
+use Rattle.model.specs.declared.Verdict.{Verdict}
+use Rattle.model.specs.declared.Verdict.the-variants.{Accepted, Refused}
+use Rattle.model.specs.Choose.{_or_then_, whenFound, isFound}
 
 -- a test holds or fails
 pub cases : {P : Type 0} (b : Bool) → (b ≡ true → P) → (b ≡ false → P) → P
@@ -26,6 +29,11 @@ and-right false b h = never true refl (sym h)
 
 pub both : (a b : Bool) → a ≡ true → b ≡ true → (a && b) ≡ true
 both a b h k = rw h k
+
+-- the first check held, and the rest accepted
+pub check-held : (b : Bool) (why : Refusal) (k : Verdict) → (b or Refused why then k) ≡ Accepted → (b ≡ true) × (k ≡ Accepted)
+check-held true why k h = (refl, h)
+check-held false why k h = never true refl (cc)
 
 -- what was found is something
 pub found : {A : Type 0} (o : Option A) → isFound o ≡ true → (a : A) × (o ≡ some a)

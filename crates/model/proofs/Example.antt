@@ -1,7 +1,8 @@
--- 01's example, its last corner, what a refused write hands over (02, A2), and the strict profile (02, A3), computed from the definitions: their bytes give their lines.
+-- 01's example, its last corner, what a refused write hands over (02, A2), the strict profile (02, A3), and
+-- Retry and Stalled there (02, A4), computed from the definitions: their bytes give their lines.
 -- Assumes nothing.
 use mathlib.Core.Path.{_≡_, refl}
-use Rattle.model.specs.Example.{exampleTrace, exampleLines, cornerTrace, cornerLines, handedTrace, handedLines, strictTrace, strictLines}
+use Rattle.model.specs.Example.{exampleTrace, exampleLines, cornerTrace, cornerLines, handedTrace, handedLines, strictTrace, strictLines, retryTrace, retryLines}
 use Rattle.model.proofs.Computed.{shown}
 
 pub example : shown exampleTrace ≡ exampleLines
@@ -19,3 +20,7 @@ handed-before = refl
 pub strict-example : shown strictTrace ≡ strictLines
 unfolding shown strictTrace strictLines
 strict-example = refl
+
+pub retry-example : shown retryTrace ≡ retryLines
+unfolding shown retryTrace retryLines
+retry-example = refl

@@ -3,7 +3,7 @@
 -- Assumes nothing.
 use Prim.Native.Nat.{ℕ}
 use native.Mathlib.Omega.{arith}
-use mathlib.Core.Path.{_≡_, refl, sym, subst, _∙_}
+use mathlib.Core.Path.{_≡_, refl, sym, ap, subst, _∙_}
 use mathlib.Core.Bool.{Bool, true}
 use mathlib.Core.List.{List, [], _++_}
 use mathlib.Core.Option.{Option, none, some}
@@ -76,8 +76,9 @@ module _ (w : Window) (row : List ItsAction) (u : ItsState) (offset width value 
       (λ b. let z : doneOf ≡ 0 = omega (arith, a .done, run-kept w row u offset width value sound a .at-most, a .new-base b) in rw z)
       (λ b. sym (passed-same w (s .registers) (u .registers) (a .same-base b) (a .same-reader b) doneOf))
 
-  pub carried-out : CarriedOut (withRegisters u (s .registers)) (commandsPassed w (u .registers) doneOf) (ranBy w row u offset width value sound a .actions) (o .written .unit)
-  carried-out = rw (passed-from, a .done, a .unit) (run-kept w row u offset width value sound a .carried)
+  pub carried-out : CarriedOut (withRegisters u (s .registers)) (commandsPassed w (u .registers) doneOf) (ranBy w row u offset width value sound a .actions)
+      (ranBy w row u offset width value sound a .unit)
+  carried-out = rw (passed-from, a .done) (run-kept w row u offset width value sound a .carried)
 
 pub write-held : {k : ItsConfig} {u : ItsState} {h : List Command} → Held k u h → (w : Window) (row : List ItsAction) (offset width value : ℕ) →
     Held k (write w row u offset width value .written .unit)
@@ -87,9 +88,9 @@ write-held {k} {u} {h} m w row offset width value =
     let l = lengthened h (carried-out w row u offset width value (m .sound) a)
     (agrees-registers u h (stores row u offset width value .registers) (m .agrees)) (rw (m .config) (m .backing)) in
     record {
-      config = l .config ∙ m .config;
+      config = ap (λ v. v .config) (a .unit) ∙ (l .config ∙ m .config);
       sound = stays-sound w row u offset width value (m .sound) a;
-      agrees = l .agrees;
+      agrees = subst (Agrees _) (sym (a .unit)) (agrees-registers _ _ _ (l .agrees));
       backing = subst (λ c. Sound c (commandsPassed w (u .registers) (writeNumbers (write w row u offset width value .written .answer) .done) ++ h)) (m .config) (l .sound);
     }
 

@@ -16,6 +16,8 @@ pub mod Mapped
 pub mod Paragraph
 pub mod Promised
 pub mod Profiles
+pub mod Retry
+pub mod Stalled
 pub mod AnyProfile
 pub mod Alike
 pub mod ArmFacts

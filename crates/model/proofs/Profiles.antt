@@ -2,11 +2,11 @@
 -- Assumes nothing.
 use Prim.Native.Nat.{ℕ, zero, suc, _+_, _^_, _≤_, _<_}
 use native.Mathlib.Omega.{arith}
-use mathlib.Core.Path.{_≡_, refl, ap, _∙_}
-use mathlib.Core.Bool.{Bool, true, false, _&&_, not}
+use mathlib.Core.Path.{_≡_, refl, sym, ap, _∙_}
+use mathlib.Core.Bool.{Bool, true, false, _&&_, _||_, not}
 use mathlib.Core.List.{List}
 use mathlib.Core.Option.{Option, none, some}
-use lib.Dec.{leb, ltb}
+use lib.Dec.{leb, ltb, eqb}
 use borrow.Author.Tests.{le-ltb, ltb-true}
 use Rattle.model.specs.declared.ItsDeviceId.{ItsDeviceId}
 use Rattle.model.specs.declared.EventId.{EventId}
@@ -14,6 +14,8 @@ use Rattle.model.specs.declared.ItsConfig.{ItsConfig}
 use Rattle.model.specs.declared.ItsRegisters.{ItsRegisters}
 use Rattle.model.specs.declared.ItsState.{ItsState}
 use Rattle.model.specs.declared.ItsAction.{ItsAction}
+use Rattle.model.specs.declared.Register.{Register}
+use Rattle.model.specs.declared.Register.the-variants.{Ctlr, Iidr, Typer, Cbaser, Cwriter, Creadr, Baser, Reserved}
 use Rattle.model.specs.declared.RegisterWrite.{RegisterWrite}
 use Rattle.model.specs.declared.Command.{Command}
 use Rattle.model.specs.declared.Command.the-variants.{Mapd, Mapc, Mapti, Mapi, Movi, Int, Clear, Discard, Inv, Invall, Sync}
@@ -23,22 +25,26 @@ use Rattle.model.specs.declared.Refusal.the-variants.{NotInWindow, Devic
 use Rattle.model.specs.declared.Verdict.the-variants.{Refused}
 use Rattle.model.specs.Choose.{_or_then_, ifFound, whenFound}
 use Rattle.model.specs.Arm.{_of_, TYPER·Devbits, CBASER·Valid}
-use Rattle.model.specs.With.{withRegisters, withReader}
+use Rattle.model.specs.With.{withRegisters, withStalled, withReader}
 use Rattle.model.specs.Profile.{base, strict, isProfile, isStrict, profileOf}
 use Rattle.model.specs.Config.{sizesIn01, soundConfig}
 use Rattle.model.specs.Decode.{opcodeOf, decode}
 use Rattle.model.specs.Step.{checkIn01, deviceNamed, tooLarge, check, cleared, effectIn01, beforehand, effect, actionsOf}
-use Rattle.model.specs.Queue.{Window, commandAt, waiting, commandAddress, Turn, passes, stays, judged, turnOn, turn, carryOut, andThen, goOn, run, held, mayRun, runQueue}
+use Rattle.model.specs.Queue.{Window, commandAt, waiting, commandAddress, Turn, passes, stays, judged, turnOn, turn, carryOut, Stop, Ran, andThen, goOn, run, stall, halting, held, mayRun, runQueue}
 use Rattle.model.specs.Passed.{ifKnown, commandHere}
-use Rattle.model.specs.Register.{bitsNeeded, typerValue}
+use Rattle.model.specs.Register.{bitsNeeded, typerValue, isStalled, creadrValue, writtenBy, registerAt}
 use Rattle.model.specs.Access.{checkRead, checkWrite}
-use Rattle.model.specs.Writing.{registerWrite}
+use Rattle.model.specs.Writing.{toCbaser, retries, offered, toCwriter, writeRegister, registerWrite}
 use Rattle.model.specs.Entry.{readFrom, read, translate, running, concluded, stores, configure, write}
-use Rattle.model.specs.In01.{configureIn01, readIn01, translateIn01, turnOnIn01, turnIn01, carryOutIn01, goOnIn01, runIn01, runQueueIn01, storesIn01, concludedIn01, writeIn01}
+use Rattle.model.specs.In01.{configureIn01, valueIn01, readIn01, translateIn01, turnOnIn01, turnIn01, carryOutIn01, goOnIn01, runIn01, runQueueIn01, writeRegisterIn01, storesIn01, concludedIn01, writeIn01}
 use Rattle.model.specs.Common.{Common}
 use Rattle.model.proofs.Cases.{cases, never, and-left}
 use Rattle.model.proofs.Effects.{rest-effect}
 use Rattle.model.proofs.Turns.{on-words}
+
+pub or-on : (b : Bool) → (b || true) ≡ true
+or-on true = refl
+or-on false = refl
 
 pub off-and : (b : Bool) → (b && false) ≡ false
 off-and true = refl
@@ -49,15 +55,30 @@ off-and false = refl
 pub is-strict : (k : ItsConfig) → profileOf k ≡ strict → isStrict (k .profile) ≡ true
 is-strict k s = cases (isStrict (k .profile)) (λ y. y) (λ n. let z : base ≡ strict = rw n at s in never true refl (cc))
 
+pub is-base : (k : ItsConfig) → profileOf k ≡ base → isStrict (k .profile) ≡ false
+is-base k s = cases (isStrict (k .profile)) (λ y. let z : strict ≡ base = rw y at s in never true refl (cc)) (λ n. n)
+
 -- a sound configuration has 01's sizes
 pub sizes-of : (k : ItsConfig) → soundConfig k ≡ true → sizesIn01 k ≡ true
 unfolding soundConfig
 sizes-of k s = and-left (sizesIn01 k) _ s
 
--- whether the queue may run does not depend on CREADR
-pub may-reader : (k : ItsConfig) (r : ItsRegisters) (reader : ℕ) → mayRun k (withReader r reader) ≡ mayRun k r
+-- whether the queue may run does not depend on CREADR, nor in base on Stalled; and one that may stays so if Stalled is cleared
+pub may-base : (k : ItsConfig) (r : ItsRegisters) (stalled : Bool) → isStrict (k .profile) ≡ false → mayRun k (withStalled r stalled) ≡ mayRun k r
 unfolding held mayRun
-may-reader k r reader = refl
+may-base k r stalled b = rw b
+
+pub may-clear : (k : ItsConfig) (r : ItsRegisters) → isStrict (k .profile) ≡ true → mayRun k r ≡ true → r .stalled ≡ false
+unfolding held mayRun
+may-clear k r y h =
+    cases (r .stalled)
+    (λ s. let no : mayRun k r ≡ false = rw (y, s, or-on (eqb (CBASER·Valid of r .cbaser) 0)) (off-and (r .enabled)) in never (mayRun k r) h no)
+    (λ n. n)
+
+pub may-cleared : (k : ItsConfig) (r : ItsRegisters) (reader : ℕ) → mayRun k r ≡ true → mayRun k (withStalled (withReader r reader) false) ≡ true
+unfolding held mayRun
+may-cleared k r reader h =
+    cases (isStrict (k .profile)) (λ y. ap (λ b. mayRun k (withStalled r b)) (sym (may-clear k r y h)) ∙ h) (λ b. may-base k r false b ∙ h)
 
 -- it may not in a disabled unit
 pub may-enabled : (k : ItsConfig) (r : ItsRegisters) → mayRun k r ≡ true → r .enabled ≡ true
@@ -73,10 +94,19 @@ pub held-may : (k : ItsConfig) (r : ItsRegisters) → held k r ≡ true → mayR
 unfolding mayRun
 held-may k r h = rw h (off-and (r .enabled))
 
--- with bit 63 set it may in both profiles
-pub valid-may : (k : ItsConfig) (r : ItsRegisters) → r .enabled ≡ true → CBASER·Valid of r .cbaser ≡ 1 → mayRun k r ≡ true
+-- with bit 63 set and Stalled clear it may in both profiles
+pub valid-may : (k : ItsConfig) (r : ItsRegisters) → r .enabled ≡ true → CBASER·Valid of r .cbaser ≡ 1 → r .stalled ≡ false → mayRun k r ≡ true
 unfolding mayRun held
-valid-may k r on valid = rw (on, valid, off-and (isStrict (k .profile)))
+valid-may k r on valid clear = rw (on, valid, clear, off-and (isStrict (k .profile)))
+
+-- a unit that is not stalled shows CREADR's offset alone
+pub creadr-plain : (k : ItsConfig) (r : ItsRegisters) → isStalled k r ≡ false → creadrValue k r ≡ r .creadr
+unfolding creadrValue
+creadr-plain k r n = rw n
+
+-- a run that no command stopped leaves Stalled
+pub halting-none : (q : Ran) → q .stopped ≡ none → halting q ≡ q
+halting-none q n = ap (λ o. record { unit = ifFound o (λ s. stall (q .unit)) (q .unit); done = q .done; actions = q .actions; stopped = q .stopped }) n
 
 -- device numbers above 65535 are beyond what TYPER announces
 bits-most : (k n : ℕ) → bitsNeeded k n ≤ k
@@ -178,10 +208,27 @@ module _ (w : Window) where
   base-run zero u b = refl
   base-run (suc n) u b = base-step n u b (base-run n) (turn w u) refl
 
+  config-step : (n : ℕ) (u : ItsState) → ((v : ItsState) → run w n v .unit .config ≡ v .config) → (t : Turn) → turn w u ≡ t → goOn u t (run w n) .unit .config ≡ u .config
+  config-step n u rest (passes x) e = rest (carryOut u x) ∙ kept-config u x w e
+  config-step n u rest (stays r opcode) e = refl
+
+  pub run-config : (n : ℕ) (u : ItsState) → run w n u .unit .config ≡ u .config
+  run-config zero u = refl
+  run-config (suc n) u = config-step n u (run-config n) (turn w u) refl
+
+  -- a command that stopped a run leaves Stalled, in base
+  base-halting : (q : Ran) → isStrict (q .unit .config .profile) ≡ false → halting q ≡ q
+  unfolding stall
+  base-halting q b = ap (λ u. record { unit = u; done = q .done; actions = q .actions; stopped = q .stopped }) (by-stop (q .stopped))
+    where
+      by-stop : (o : Option Stop) → ifFound o (λ s. stall (q .unit)) (q .unit) ≡ q .unit
+      by-stop none = refl
+      by-stop (some s) = rw b
+
   base-queue : (u : ItsState) → isStrict (u .config .profile) ≡ false → runQueue w u ≡ runQueueIn01 w u
   unfolding runQueue runQueueIn01 mayRun held
   base-queue u b =
-      rw (b, base-run (waiting (u .registers)) u b)
+      rw (base-halting (run w (waiting (u .registers)) u) (rw (run-config (waiting (u .registers)) u) b), b, base-run (waiting (u .registers)) u b)
       (cases (u .registers .enabled) (λ y. rw y) (λ n. rw n))
 
 and-on : (b : Bool) → (b && true) ≡ b
@@ -193,27 +240,41 @@ pub sizes-only : (k : ItsConfig) → isProfile (k .profile) ≡ true → soundCo
 unfolding soundConfig
 sizes-only k p = rw p (and-on (sizesIn01 k))
 
-pub base-is : (k : ItsConfig) → k .profile ≡ 0 → isProfile (k .profile) ≡ true
-base-is k b = rw b
+pub base-known : (k : ItsConfig) → k .profile ≡ 0 → isProfile (k .profile) ≡ true
+base-known k b = rw b
 
 module _ (u : ItsState) (b : u .config .profile ≡ 0) where
   not-strict : isStrict (u .config .profile) ≡ false
   not-strict = rw b
 
   base-sizes : soundConfig (u .config) ≡ sizesIn01 (u .config)
-  base-sizes = sizes-only (u .config) (base-is (u .config) b)
+  base-sizes = sizes-only (u .config) (base-known (u .config) b)
+
+  base-creadr : creadrValue (u .config) (u .registers) ≡ u .registers .creadr
+  base-creadr = creadr-plain (u .config) (u .registers) (rw not-strict)
 
   pub base-reads : (offset width : ℕ) → read u offset width ≡ readIn01 u offset width
   unfolding readFrom checkRead readIn01
-  base-reads offset width = rw base-sizes
+  base-reads offset width = rw (base-sizes, base-creadr)
 
   pub base-translates : (d : ItsDeviceId) (e : EventId) → translate u d e ≡ translateIn01 u d e
   unfolding translate translateIn01
   base-translates d e = rw base-sizes
 
-  base-stores : (row : List ItsAction) (offset width value : ℕ) → stores row u offset width value ≡ storesIn01 row u offset width value
+  base-register : (value : ℕ) (n : Register) → writeRegister (u .config) (u .registers) value n ≡ writeRegisterIn01 (u .registers) value n
+  unfolding toCbaser toCwriter offered retries
+  base-register value Ctlr = refl
+  base-register value Iidr = refl
+  base-register value Typer = refl
+  base-register value Cbaser = rw not-strict
+  base-register value Cwriter = rw not-strict
+  base-register value Creadr = refl
+  base-register value (Baser n) = refl
+  base-register value Reserved = refl
+
+  pub base-stores : (row : List ItsAction) (offset width value : ℕ) → stores row u offset width value ≡ storesIn01 row u offset width value
   unfolding registerWrite checkWrite storesIn01
-  base-stores row offset width value = rw base-sizes
+  base-stores row offset width value = rw (base-sizes, base-creadr, base-register (writtenBy (valueIn01 u) offset width value (registerAt offset)) (registerAt offset))
 
   base-concludes : (w : Window) (row : List ItsAction) (s : RegisterWrite) → concluded w row u s ≡ concludedIn01 w row u s
   unfolding running
@@ -225,4 +286,4 @@ module _ (u : ItsState) (b : u .config .profile ≡ 0) where
 
 pub base-configures : (k : ItsConfig) → k .profile ≡ 0 → configure k ≡ configureIn01 k
 unfolding configure configureIn01
-base-configures k b = rw (sizes-only k (base-is k b))
+base-configures k b = rw (sizes-only k (base-known k b))

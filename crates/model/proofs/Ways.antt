@@ -4,7 +4,7 @@
 -- Assumes nothing.
 use Prim.Native.Nat.{ℕ, _≤_, _<_}
 use native.Mathlib.Omega.{arith}
-use mathlib.Core.Path.{_≡_, refl, sym, subst}
+use mathlib.Core.Path.{_≡_, refl, sym, ap, _∙_, subst}
 use mathlib.Core.Bool.{Bool, true, false, not}
 use mathlib.Core.List.{List, []}
 use lib.ListN.{length, replicate, length-replicate}
@@ -21,29 +21,25 @@ use Rattle.model.specs.declared.Refusal.the-variants.{Unsound, RowTooSho
 use Rattle.model.specs.declared.Verdict.{Verdict}
 use Rattle.model.specs.declared.Verdict.the-variants.{Accepted, Refused}
 use Rattle.model.specs.declared.WriteAnswer.the-variants.{NotTaken}
+use Rattle.model.specs.Profile.{isStrict}
 use Rattle.model.specs.Choose.{if_then_else_, _or_then_}
 use Rattle.model.specs.Refusal.{writeNumbers}
-use Rattle.model.specs.With.{withRegisters, withEnabled, withWriter}
+use Rattle.model.specs.With.{withRegisters, withEnabled, withWriter, unitStalled}
 use Rattle.model.specs.Config.{queueBase, soundConfig, soundRing, soundUnit}
-use Rattle.model.specs.Queue.{Window, waiting, Ran, run, mayRun}
+use Rattle.model.specs.Queue.{Window, waiting, Ran, run, halting, mayRun}
 use Rattle.model.specs.Register.{registerAt, valueWritten}
 use Rattle.model.specs.Access.{checkWrite, ifAccepted}
-use Rattle.model.specs.Writing.{refusing, storing, rebasing, going, enables, toCtlr, withCbaser, toCbaser, writerTaken, writerAccepted, toCwriter, withBaser, toBaser, writeRegister, registerWrite}
+use Rattle.model.specs.Writing.{refusing, storing, rebasing, going, enables, toCtlr, clearing, withCbaser, toCbaser, retries, writerAccepted, writerOf, toCwriter, withBaser, toBaser, writeRegister, registerWrite}
 use Rattle.model.specs.Entry.{Outcome, rowAfter, afterRun, running, concluded, stores, write}
-use Rattle.model.proofs.Cases.{cases, never, and-left, and-right, both}
+use Rattle.model.proofs.Cases.{cases, never, and-left, and-right, both, check-held}
 use Rattle.model.proofs.Ring.{reader-below}
 use Rattle.model.proofs.Waiting.{writer-sound, base-sound, reader-sound}
 use Rattle.model.proofs.Runs.{RunKeeps, run-keeps}
-use Rattle.model.proofs.Answers.{done-of, queue-runs, queue-over, queue-off}
+use Rattle.model.proofs.Answers.{done-of, halted-unit, halted-answer, queue-runs, queue-over, queue-off}
 
--- the first check held, and the rest accepted
-held : (b : Bool) (why : Refusal) (k : Verdict) → (b or Refused why then k) ≡ Accepted → (b ≡ true) × (k ≡ Accepted)
-held true why k h = (refl, h)
-held false why k h = never true refl (cc)
-
--- the writer that a CWRITER write brings: the merged value; with a nonzero CBASER its bits 19:0
-abbrev pub writerOf : ItsState → ℕ → ℕ → ℕ → ℕ
-writerOf u offset width value = writerTaken (u .registers) (valueWritten (u .config) (u .registers) offset width value Cwriter)
+-- the writer that a CWRITER write brings
+abbrev pub writerBy : ItsState → ℕ → ℕ → ℕ → ℕ
+writerBy u offset width value = writerOf (u .config) (u .registers) (valueWritten (u .config) (u .registers) offset width value Cwriter)
 
 module _ (w : Window) (row : List ItsAction) (u : ItsState) (offset width value : ℕ) where
   -- The registers s are stored: CREADR and the base are as before, unit and ring are sound, and the row has room.
@@ -67,19 +63,19 @@ module _ (w : Window) (row : List ItsAction) (u : ItsState) (offset width value 
     no-base : soundUnit u ≡ true → Way (refusing (u .registers) 0 BaseZero) (nothing-run (refusing (u .registers) 0 BaseZero))
     -- 7 at CWRITER
     no-writer : soundUnit u ≡ true → registerAt offset ≡ Cwriter →
-        Way (refusing (u .registers) (writerOf u offset width value) WriterRefused) (nothing-run (refusing (u .registers) (writerOf u offset width value) WriterRefused))
+        Way (refusing (u .registers) (writerBy u offset width value) WriterRefused) (nothing-run (refusing (u .registers) (writerBy u offset width value) WriterRefused))
     -- stored, or ignored, and nothing runs
     quiet : (s : ItsRegisters) → Stored s → Way (storing s) (nothing-run (storing s))
     -- a new base, and nothing runs
     based : (s : ItsRegisters) → soundConfig (u .config) ≡ true → soundRing s ≡ true → s .creadr ≡ 0 → Way (rebasing s) (nothing-run (rebasing s))
-    -- let run, and the queue may not: the unit is disabled, or in strict CBASER's bit 63 is clear
+    -- let run, and the queue may not: the unit is disabled, or in strict CBASER's bit 63 is clear or the unit stalled
     off : (s : ItsRegisters) → Stored s → mayRun (u .config) s ≡ false → Way (going s) (nothing-run (going s))
     -- more wait than the budget
     over : (s : ItsRegisters) → Stored s → mayRun (u .config) s ≡ true → u .config .«command_budget» < waiting s →
         Way (going s) (record { written = record { unit = withRegisters u s; answer = NotTaken BudgetExceeded 0 (s .creadr) 0 0 }; row = row })
     -- what waits is run
     ran : (s : ItsRegisters) → Stored s → mayRun (u .config) s ≡ true → waiting s ≤ u .config .«command_budget» →
-        Way (going s) (afterRun (run w (waiting s) (withRegisters u s)) row)
+        Way (going s) (afterRun (halting (run w (waiting s) (withRegisters u s))) row)
 
   -- let run
   let-run : (s : ItsRegisters) → Stored s → Way (going s) (concluded w row u (going s))
@@ -112,24 +108,27 @@ module _ (w : Window) (row : List ItsAction) (u : ItsState) (offset width value 
 
     -- with a, the unit is enabled; with b, the base is not zero
     to-base : (written : ℕ) (a b : Bool) → (b ≡ true → not (eqb (queueBase written) 0) ≡ true) →
-        Goes (if a then storing r else (b or refusing r 0 BaseZero then rebasing (withCbaser r written)))
+        Goes (if a then storing r else (b or refusing r 0 BaseZero then rebasing (clearing (isStrict (u .config .profile)) (withCbaser r written))))
+    unfolding soundRing
     to-base written true b t = ignored
-    to-base written false true t = based (withCbaser r written) (and-left (soundConfig (u .config)) _ sound) (base-sound r written (t refl)) refl
+    to-base written false true t =
+        based (clearing (isStrict (u .config .profile)) (withCbaser r written)) (and-left (soundConfig (u .config)) _ sound) (base-sound r written (t refl)) refl
     to-base written false false t = no-base sound
 
-    to-writer : registerAt offset ≡ Cwriter → (a : Bool) → (a ≡ true → writerAccepted r (writerOf u offset width value) ≡ true) →
-        Goes (a or refusing r (writerOf u offset width value) WriterRefused then going (withWriter r (writerOf u offset width value)))
-    to-writer at true t =
-        let taken = writerOf u offset width value in
-        let-run (withWriter r taken) (kept (withWriter r taken) refl refl (writer-sound r ring taken (t refl)))
-    to-writer at false t = no-writer sound at
+    to-writer : registerAt offset ≡ Cwriter → (a retry : Bool) → (a ≡ true → writerAccepted r (writerBy u offset width value) ≡ true) →
+        Goes (a or refusing r (writerBy u offset width value) WriterRefused then going (clearing retry (withWriter r (writerBy u offset width value))))
+    unfolding soundRing
+    to-writer at true retry t =
+        let taken = writerBy u offset width value in
+        let-run (clearing retry (withWriter r taken)) (kept (clearing retry (withWriter r taken)) refl refl (writer-sound r ring taken (t refl)))
+    to-writer at false retry t = no-writer sound at
 
     to-table : (n written : ℕ) (a : Bool) → Goes (if a then storing r else storing (withBaser r n written))
     unfolding soundRing
     to-table n written true = ignored
     to-table n written false = quiet (withBaser r n written) (kept (withBaser r n written) refl refl ring)
 
-    to-register : (n : Register) → registerAt offset ≡ n → Goes (writeRegister r (valueWritten (u .config) r offset width value n) n)
+    to-register : (n : Register) → registerAt offset ≡ n → Goes (writeRegister (u .config) r (valueWritten (u .config) r offset width value n) n)
     unfolding toCtlr toCbaser toCwriter toBaser soundRing
     to-register Ctlr at = let-run (withEnabled r (enables value)) (kept (withEnabled r (enables value)) refl refl ring)
     to-register Iidr at = ignored
@@ -137,19 +136,20 @@ module _ (w : Window) (row : List ItsAction) (u : ItsState) (offset width value 
     to-register Cbaser at =
         let written = valueWritten (u .config) r offset width value Cbaser in
         to-base written (r .enabled) (not (eqb (queueBase written) 0)) (λ t. t)
-    to-register Cwriter at = to-writer at (writerAccepted r (writerOf u offset width value)) (λ t. t)
+    to-register Cwriter at =
+        to-writer at (writerAccepted r (writerBy u offset width value)) (retries (u .config) (valueWritten (u .config) r offset width value Cwriter)) (λ t. t)
     to-register Creadr at = ignored
     to-register (Baser n) at = to-table n (valueWritten (u .config) r offset width value (Baser n)) (r .enabled)
     to-register Reserved at = ignored
 
   -- an access, by the verdict of its checks
   by-verdict : (v : Verdict) → checkWrite (u .config) (u .registers) (length row) offset width ≡ v → (n : Register) → registerAt offset ≡ n →
-      Way (ifAccepted v (writeRegister (u .registers) (valueWritten (u .config) (u .registers) offset width value n) n) (refusing (u .registers) 0))
-      (concluded w row u (ifAccepted v (writeRegister (u .registers) (valueWritten (u .config) (u .registers) offset width value n) n) (refusing (u .registers) 0)))
+      Way (ifAccepted v (writeRegister (u .config) (u .registers) (valueWritten (u .config) (u .registers) offset width value n) n) (refusing (u .registers) 0))
+      (concluded w row u (ifAccepted v (writeRegister (u .config) (u .registers) (valueWritten (u .config) (u .registers) offset width value n) n) (refusing (u .registers) 0)))
   unfolding checkWrite
   by-verdict Accepted c n at =
-      let (sound, rest) = held (soundUnit u) Unsound _ c in
-      let (room, access) = held (leb (u .config .«command_budget») (length row)) RowTooShort _ rest in
+      let (sound, rest) = check-held (soundUnit u) Unsound _ c in
+      let (room, access) = check-held (leb (u .config .«command_budget») (length row)) RowTooShort _ rest in
       to-register sound (leb-true _ _ room) n at
   by-verdict (Refused why) c n at = checked why c
 
@@ -163,8 +163,8 @@ module _ (w : Window) (row : List ItsAction) (u : ItsState) (offset width value 
     pub ring : soundRing (s .registers) ≡ true
     pub waited : n ≤ waiting (s .registers)
     pub budget : n ≤ u .config .«command_budget»
-    -- the unit, done and the row are those of the run
-    pub unit : o .written .unit ≡ run w n (withRegisters u (s .registers)) .unit
+    -- the unit but for Stalled, done and the row are those of the run
+    pub unit : o .written .unit ≡ unitStalled (run w n (withRegisters u (s .registers)) .unit) (o .written .unit .registers .stalled)
     pub done : writeNumbers (o .written .answer) .done ≡ run w n (withRegisters u (s .registers)) .done
     pub row-left : o .row ≡ rowAfter (run w n (withRegisters u (s .registers)) .actions) row
     -- nothing is run with a new base, nor where the queue may not run
@@ -177,7 +177,7 @@ module _ (w : Window) (row : List ItsAction) (u : ItsState) (offset width value 
 
   -- no command is run
   none-run : (s : ItsRegisters) (o : Outcome) → s .cbaser ≡ u .registers .cbaser → s .creadr ≡ u .registers .creadr → soundRing s ≡ true →
-      o .written .unit ≡ withRegisters u s → writeNumbers (o .written .answer) .done ≡ 0 → o .row ≡ row →
+      o .written .unit ≡ unitStalled (withRegisters u s) (o .written .unit .registers .stalled) → writeNumbers (o .written .answer) .done ≡ 0 → o .row ≡ row →
       {runs : Bool} {a : _} → AsRun (record { registers = s; rebased = false; runs = runs; answer = a }) o
   none-run s o b c k v d l =
       record {
@@ -224,8 +224,8 @@ module _ (w : Window) (row : List ItsAction) (u : ItsState) (offset width value 
         ring = g .ring;
         waited = omega arith;
         budget = within;
-        unit = refl;
-        done = done-of q (q .stopped);
+        unit = halted-unit q;
+        done = ap (λ z. writeNumbers z .done) (halted-answer q) ∙ done-of q (q .stopped);
         row-left = refl;
         new-base = λ b. never true refl (sym b);
         may-not = λ e. never (mayRun (u .config) s) on e;
@@ -246,8 +246,10 @@ module _ (w : Window) (row : List ItsAction) (u : ItsState) (offset width value 
 
     -- unit and ring stay sound
     pub stays-sound : soundUnit (o .written .unit) ≡ true
+    unfolding soundRing
     stays-sound =
-        rw (a .unit, run-kept .config, run-kept .registers)
+        ap soundUnit (a .unit)
+        ∙ rw (run-kept .config, run-kept .registers)
         (both (soundConfig (u .config)) _ (and-left _ _ sound) (reader-sound (s .registers) (a .ring) (ranBy .done) fewer))
 
 -- Where the queue is let run, unit and ring are sound with the value stored, and the row has room for the budget.

@@ -80,9 +80,9 @@ baserOf type = BASER·Type holding type + BASER·Entry-Size holding 7
 abbrev pub freshBasers : List ℕ
 freshBasers = baserOf of-devices ∷ baserOf of-collections ∷ replicate 6 0
 
--- disabled, CBASER and both offsets zero
+-- disabled, not stalled, CBASER and both offsets zero
 abbrev pub freshRegisters : ItsRegisters
-freshRegisters = theRegisters false 0 0 0 freshBasers
+freshRegisters = theRegisters false false 0 0 0 freshBasers
 
 -- 32 devices, 32 collections, and a table of 256 translation records, all free
 abbrev pub freshUnit : ItsConfig → ItsState

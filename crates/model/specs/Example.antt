@@ -1,5 +1,5 @@
--- Document 01, "The trace": the example, its records in bytes and the lines that it prints; 01's last corner; what a refused write hands over (02, A2); and
--- the strict profile (02, A3).
+-- Document 01, "The trace": the example, its records in bytes and the lines that it prints; 01's last corner; what a refused write hands over (02, A2);
+-- the strict profile (02, A3); and Retry and Stalled there (02, A4).
 -- Assumes nothing.
 use Prim.Native.Nat.{ℕ, zero, suc, _/_, _%_}
 use mathlib.Core.List.{List, [], _∷_, _++_}
@@ -92,7 +92,7 @@ handedLines = exampleLines ++ ascii "GM 0\nWR 8 3 192 2 2\nAC 1 8200 1\nAC 1 820
 
 -- 02, A3. The example in strict, with CBASER's bit 63 clear first: CTLR and CWRITER are stored and CREADR stays, though 127 commands wait and the budget
 -- is 64. Disabled, and with bit 63 set, the commands run. Then device 5 is mapped again, with commands that name no device though w0 63:32 is 65536:
--- MAPC, INVALL, SYNC, and last the opcode 0E, which is unknown. The pair (5, 9) is gone, and an INT of device 65536 is too large
+-- MAPC, INVALL, SYNC, and last the opcode 0E, which is unknown. The pair (5, 9) is gone, and an INT of device 65536, tried with Retry (02, A4), is too large
 unfoldable pub strictTrace : List ℕ
 strictTrace =
     CFs 1
@@ -119,10 +119,74 @@ strictTrace =
     ++ (WRs 0x88 8 288
     ++ (TRs 5 9
     ++ (GMs 0x40000100 (words (0x1000000000003 ∷ 9 ∷ 0 ∷ 0 ∷ []))
-    ++ WRs 0 4 1))))))))))))))))
+    ++ WRs 0x88 8 289))))))))))))))))
 
 -- the lines that it prints
 unfoldable pub strictLines : List ℕ
 strictLines =
     ascii "CF 0\nGM 0\nWR 0 0 0 0 0\nWR 0 0 0 0 0\nWR 0 0 0 0 0\nWR 0 0 0 0 0\nRD 0 0\nRD 0 4064\nWR 0 0 0 0 0\nWR 0 0 0 0 0\nWR 0 0 0 0 0\n"
     ++ ascii "WR 0 0 0 4 1\nAC 1 8200 1\nTR 0 8200 1\nGM 0\nWR 20 14 256 4 0\nTR 8 0 0\nGM 0\nWR 27 3 256 0 0\n"
+
+-- 02, A4. Strict: the writers 1, which is 0 with Retry, and 33, which is 32 with it and refused. MAPD of device 5 and then the opcode 0E, which stops the
+-- ring: CREADR shows Stalled, at both widths and not in its high half, and CWRITER no Retry
+abbrev pub stallingTrace : List ℕ
+stallingTrace =
+    CFs 1
+    ++ (WRs 0x88 8 1
+    ++ (WRs 0x88 8 33
+    ++ (GMs 0x40000000 (words (0x500000008 ∷ 3 ∷ 0x8000000000000000 ∷ 0 ∷ 0x0E ∷ 0 ∷ 0 ∷ 0 ∷ []))
+    ++ (WRs 0x80 8 0x8000000040000000
+    ++ (WRs 0 4 1
+    ++ (WRs 0x88 8 64
+    ++ (RDs 0x90 8
+    ++ (RDs 0x90 4
+    ++ (RDs 0x94 4
+    ++ RDs 0x88 8)))))))))
+
+abbrev pub stallingLines : List ℕ
+stallingLines = ascii "CF 0\nWR 0 0 0 0 0\nWR 7 0 32 0 0\nGM 0\nWR 0 0 0 0 0\nWR 0 0 0 0 0\nWR 20 14 32 1 0\nRD 0 33\nRD 0 33\nRD 0 0\nRD 0 64\n"
+
+-- Then nothing runs and there is no 5, though the budget is 64: CTLR; CWRITER without Retry, so that 126 wait; bit 0 of CWRITER's high half; and Retry
+-- with a writer that is refused. An accepted Retry clears Stalled: here more wait than the budget, and Stalled stays clear. With fewer the opcode 0E
+-- stalls the unit again
+abbrev pub stalledTrace : List ℕ
+stalledTrace =
+    WRs 0 4 1
+    ++ (WRs 0x88 8 4064
+    ++ (WRs 0x8C 4 1
+    ++ (RDs 0x90 8
+    ++ (WRs 0x88 8 4097
+    ++ (RDs 0x90 8
+    ++ (WRs 0x88 8 4065
+    ++ (RDs 0x90 8
+    ++ (WRs 0x88 4 65
+    ++ RDs 0x90 4))))))))
+
+abbrev pub stalledLines : List ℕ
+stalledLines = ascii "WR 0 0 0 0 0\nWR 0 0 0 0 0\nWR 0 0 0 0 0\nRD 0 33\nWR 7 0 4096 0 0\nRD 0 33\nWR 5 0 32 0 0\nRD 0 32\nWR 20 14 32 0 0\nRD 0 33\n"
+
+-- A SYNC stands in the place of the opcode 0E, and Retry goes on to the end. Then the ring stops again; a CBASER write is ignored while the unit is enabled,
+-- and clears Stalled where it is stored. And base, where bit 0 of CWRITER is refused as before
+unfoldable pub retryTrace : List ℕ
+retryTrace =
+    stallingTrace
+    ++ (stalledTrace
+    ++ (GMs 0x40000020 (words (5 ∷ 0 ∷ 0 ∷ 0 ∷ 0x0E ∷ 0 ∷ 0 ∷ 0 ∷ []))
+    ++ (WRs 0x88 4 65
+    ++ (RDs 0x90 8
+    ++ (RDs 0x88 8
+    ++ (WRs 0x88 8 96
+    ++ (WRs 0x80 8 0x8000000040000000
+    ++ (RDs 0x90 8
+    ++ (WRs 0 4 0
+    ++ (WRs 0x80 8 0x8000000040000000
+    ++ (RDs 0x90 8
+    ++ (CFs 0
+    ++ WRs 0x88 8 1))))))))))))
+
+-- the lines that it prints
+unfoldable pub retryLines : List ℕ
+retryLines =
+    stallingLines
+    ++ (stalledLines
+    ++ ascii "GM 0\nWR 0 0 0 1 0\nRD 0 64\nRD 0 64\nWR 20 14 64 0 0\nWR 0 0 0 0 0\nRD 0 65\nWR 0 0 0 0 0\nWR 0 0 0 0 0\nRD 0 0\nCF 0\nWR 7 0 1 0 0\n")

@@ -13,6 +13,7 @@ use Rattle.model.specs.declared.ItsConfig.{ItsConfig}
 use Rattle.model.specs.declared.ItsRegisters.{ItsRegisters}
 use Rattle.model.specs.declared.ItsState.{ItsState}
 use Rattle.model.specs.declared.ItsAction.{ItsAction}
+use Rattle.model.specs.declared.Register.{Register}
 use Rattle.model.specs.declared.Command.{Command}
 use Rattle.model.specs.declared.Decoded.{Decoded}
 use Rattle.model.specs.declared.Decoded.the-variants.{Known, Unknown}
@@ -25,14 +26,14 @@ use Rattle.model.specs.declared.TranslateAnswer.{TranslateAnswer}
 use Rattle.model.specs.declared.TranslateAnswer.the-variants.{Delivered, NotDelivered}
 use Rattle.model.specs.declared.Configured.{Configured}
 use Rattle.model.specs.Choose.{if_then_else_, _or_then_, ifFound}
-use Rattle.model.specs.With.{withRegisters}
+use Rattle.model.specs.With.{withRegisters, withWriter}
 use Rattle.model.specs.Config.{sizesIn01, soundRing, freshUnit, noUnit}
 use Rattle.model.specs.Decode.{opcodeOf, decode}
 use Rattle.model.specs.Step.{deliveryIn, checkIn01, effectIn01, actionsOf}
 use Rattle.model.specs.Queue.{Window, commandAt, waiting, commandAddress, Turn, passes, stays, judged, pastCommand, Ran, ended, andThen}
-use Rattle.model.specs.Register.{registerAt, readOf, valueWritten}
+use Rattle.model.specs.Register.{registerAt, valueWith, readBy, writtenBy}
 use Rattle.model.specs.Access.{checkAccess, ifAccepted}
-use Rattle.model.specs.Writing.{refusing, writeRegister}
+use Rattle.model.specs.Writing.{refusing, withCbaser, storingBase, writerTaken, storingWriter, writeWith}
 use Rattle.model.specs.Entry.{Outcome, afterRun}
 
 -- configuration and ring are sound
@@ -46,11 +47,15 @@ configureIn01 k =
     then record { unit = freshUnit k; verdict = Accepted }
     else record { unit = noUnit; verdict = Refused Unsound }
 
+-- what a register holds: CREADR its offset
+abbrev pub valueIn01 : ItsState → Register → ℕ
+valueIn01 u n = valueWith (u .registers .creadr) (u .config) (u .registers) n
+
 -- a read
 unfoldable pub readIn01 : ItsState → ℕ → ℕ → ReadAnswer
 readIn01 u offset width =
     ifAccepted (soundIn01 (u .config) (u .registers) or Refused Unsound then checkAccess (u .config) offset width)
-    (Value (readOf (u .config) (u .registers) offset width (registerAt offset)))
+    (Value (readBy (valueIn01 u) offset width (registerAt offset)))
     NoValue
 
 -- a translation
@@ -89,6 +94,16 @@ runQueueIn01 w u =
     runIn01 w (waiting (u .registers)) u)
     else ended u none
 
+-- a write of CBASER stores the value, one of CWRITER the writer that is taken of the value
+abbrev pub toCbaserIn01 : ItsRegisters → ℕ → RegisterWrite
+toCbaserIn01 r value = storingBase r value (withCbaser r value)
+
+abbrev pub toCwriterIn01 : ItsRegisters → ℕ → RegisterWrite
+toCwriterIn01 r value = storingWriter r (writerTaken r value) (withWriter r (writerTaken r value))
+
+abbrev pub writeRegisterIn01 : ItsRegisters → ℕ → Register → RegisterWrite
+writeRegisterIn01 r value n = writeWith (toCbaserIn01 r) (toCwriterIn01 r) r value n
+
 -- a write
 unfoldable pub storesIn01 : List ItsAction → ItsState → ℕ → ℕ → ℕ → RegisterWrite
 storesIn01 row u offset width value =
@@ -96,7 +111,7 @@ storesIn01 row u offset width value =
     (soundIn01 (u .config) (u .registers) or Refused Unsound then
     leb (u .config .«command_budget») (length row) or Refused RowTooShort then
     checkAccess (u .config) offset width)
-    (writeRegister (u .registers) (valueWritten (u .config) (u .registers) offset width value (registerAt offset)) (registerAt offset))
+    (writeRegisterIn01 (u .registers) (writtenBy (valueIn01 u) offset width value (registerAt offset)) (registerAt offset))
     (refusing (u .registers) 0)
 
 abbrev pub concludedIn01 : Window → List ItsAction → ItsState → RegisterWrite → Outcome

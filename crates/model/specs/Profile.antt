@@ -1,4 +1,4 @@
--- Document 02, A3: the profile, chosen at configuration.
+-- Document 02, A3 and A4: the profile, chosen at configuration.
 -- Assumes nothing.
 use Prim.Native.Nat.{ℕ}
 use mathlib.Core.Bool.{Bool, true, not}
@@ -10,7 +10,8 @@ use Rattle.model.specs.Choose.{if_then_else_}
 pub data Profile : Type 0 where
   -- document 01's behaviour
   base : Profile
-  -- with A3's three changes: Step.check and Step.cleared have the first two, Queue.held the third
+  -- with A3's three changes (Step.check and Step.cleared have the first two, Queue.held the third) and A4's Retry and Stalled (Writing.toCwriter,
+  -- Queue.stall, Queue.held, Register.creadrValue)
   strict : Profile
 
 -- 0 is base and 1 strict; any other number is refused

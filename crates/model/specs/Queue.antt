@@ -1,7 +1,7 @@
--- Document 01, and 02, A3: the guest window of "Sizes", the waiting commands of "Registers", and the queue's run of "Refusal numbers" and "Commands".
+-- Document 01, and 02, A3 and A4: the guest window of "Sizes", the waiting commands of "Registers", and the queue's run of "Refusal numbers" and "Commands".
 -- Assumes nothing.
 use Prim.Native.Nat.{ℕ, zero, suc, _+_, _-_, _*_, _/_, _%_, _^_, _<_}
-use mathlib.Core.Bool.{Bool, _&&_, not}
+use mathlib.Core.Bool.{Bool, _&&_, _||_, not}
 use mathlib.Core.List.{List, [], _∷_, _++_}
 use mathlib.Core.Option.{Option, none, some}
 use lib.ListN.{length, drop}
@@ -19,7 +19,7 @@ use Rattle.model.specs.declared.Verdict.{Verdict}
 use Rattle.model.specs.declared.Verdict.the-variants.{Accepted, Refused}
 use Rattle.model.specs.Choose.{if_then_else_, _or_then_, ifFound}
 use Rattle.model.specs.Arm.{_of_, CBASER·Valid, command-size}
-use Rattle.model.specs.With.{withRegisters, withReader}
+use Rattle.model.specs.With.{withRegisters, withReader, unitStalled}
 use Rattle.model.specs.Profile.{isStrict}
 use Rattle.model.specs.Config.{queueBase, queueSize}
 use Rattle.model.specs.Decode.{opcodeOf, decode}
@@ -132,18 +132,26 @@ abbrev pub run : Window → ℕ → ItsState → Ran
 run w zero u = ended u none
 run w (suc n) u = goOn u (turn w u) (run w n)
 
--- in strict, a queue whose CBASER bit 63 is 0 runs nothing and gives no 5 (02, A3)
+-- a refused command sets Stalled, in strict (02, A4)
+unfoldable pub stall : ItsState → ItsState
+stall u = unitStalled u (isStrict (u .config .profile) || u .registers .stalled)
+
+-- the run that a command stopped, or that came to its end
+abbrev pub halting : Ran → Ran
+halting q = record { unit = ifFound (q .stopped) (λ s. stall (q .unit)) (q .unit); done = q .done; actions = q .actions; stopped = q .stopped }
+
+-- in strict, a queue whose CBASER bit 63 is 0 runs nothing and gives no 5 (02, A3), and so does that of a stalled unit (A4)
 unfoldable pub held : ItsConfig → ItsRegisters → Bool
-held k r = isStrict (k .profile) && eqb (CBASER·Valid of r .cbaser) 0
+held k r = isStrict (k .profile) && (eqb (CBASER·Valid of r .cbaser) 0 || r .stalled)
 
 -- the queue runs in an enabled unit, where it is not held
 unfoldable pub mayRun : ItsConfig → ItsRegisters → Bool
 mayRun k r = r .enabled && not (held k r)
 
--- a queue that may run is run: 5 is tested once, then each command in turn
+-- a queue that may run is run: 5 is tested once, and sets no Stalled; then each command in turn
 unfoldable pub runQueue : Window → ItsState → Ran
 runQueue w u =
     if mayRun (u .config) (u .registers)
     then (leb (waiting (u .registers)) (u .config .«command_budget») or ended u (some (record { refusal = BudgetExceeded; opcode = 0 })) then
-    run w (waiting (u .registers)) u)
+    halting (run w (waiting (u .registers)) u))
     else ended u none

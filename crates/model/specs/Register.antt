@@ -1,4 +1,4 @@
--- Document 01, "Registers": which register an offset belongs to, which widths it takes, what is read, and what a write merges.
+-- Document 01, "Registers", and document 02, A4: which register an offset belongs to, which widths it takes, what is read, and what a write merges.
 -- Assumes nothing.
 use Prim.Native.Nat.{ℕ, zero, suc, _+_, _-_, _*_, _/_, _%_, _^_}
 use mathlib.Core.Bool.{Bool, true, false, _&&_, _||_}
@@ -14,6 +14,7 @@ use Rattle.model.specs.Arm.{
   _of_,
   _in-place_,
   _holding_,
+  without,
   low-half,
   high-half,
   GITS-CTLR,
@@ -31,7 +32,9 @@ use Rattle.model.specs.Arm.{
   TYPER·ITT-entry-size,
   TYPER·ID-bits,
   TYPER·Devbits,
+  CREADR·Stalled,
 }
+use Rattle.model.specs.Profile.{isStrict}
 
 -- the offset is one of the eight bytes of the 64-bit register at base
 abbrev pub liesIn : ℕ → ℕ → Bool
@@ -108,16 +111,27 @@ typerValue limit =
     + TYPER·ID-bits holding (bitsNeeded 32 limit - 1)
     + TYPER·Devbits holding 15
 
--- what a register holds, by configuration and registers: nothing that is read depends on the tables. Every other offset reads 0
+-- the unit is stalled: in base Stalled is not read, whatever a unit built by hand holds (02, A4)
+abbrev pub isStalled : ItsConfig → ItsRegisters → Bool
+isStalled k r = isStrict (k .profile) && r .stalled
+
+-- CREADR reads its offset, of a stalled unit with bit 0 set
+unfoldable pub creadrValue : ItsConfig → ItsRegisters → ℕ
+creadrValue k r = if isStalled k r then without CREADR·Stalled (r .creadr) + CREADR·Stalled holding 1 else r .creadr
+
+-- what a register holds, by configuration and registers, CREADR holding `reader`: nothing that is read depends on the tables. Every other offset reads 0
+abbrev pub valueWith : ℕ → ItsConfig → ItsRegisters → Register → ℕ
+valueWith reader k r Ctlr = ctlrValue (r .enabled)
+valueWith reader k r Iidr = iidrValue
+valueWith reader k r Typer = typerValue (k .«lpi_limit»)
+valueWith reader k r Cbaser = r .cbaser
+valueWith reader k r Cwriter = r .cwriter
+valueWith reader k r Creadr = reader
+valueWith reader k r (Baser n) = getD (r .basers) n 0
+valueWith reader k r Reserved = 0
+
 abbrev pub valueOf : ItsConfig → ItsRegisters → Register → ℕ
-valueOf k r Ctlr = ctlrValue (r .enabled)
-valueOf k r Iidr = iidrValue
-valueOf k r Typer = typerValue (k .«lpi_limit»)
-valueOf k r Cbaser = r .cbaser
-valueOf k r Cwriter = r .cwriter
-valueOf k r Creadr = r .creadr
-valueOf k r (Baser n) = getD (r .basers) n 0
-valueOf k r Reserved = 0
+valueOf k r n = valueWith (creadrValue k r) k r n
 
 -- an aligned access of 4 bytes is to a register's low half, or to its high half
 abbrev pub halfAt : ℕ → Field
@@ -127,9 +141,12 @@ halfAt offset = if eqb (offset % 8) 0 then low-half else high-half
 unfoldable pub readPart : ℕ → ℕ → ℕ → ℕ
 readPart offset width value = if eqb width 8 then value else halfAt offset of value
 
--- what an access reads of the register that it is to
+-- what an access reads of the register that it is to, where each holds this value
+abbrev pub readBy : (Register → ℕ) → ℕ → ℕ → Register → ℕ
+readBy value offset width n = if isWide n then readPart offset width (value n) else value n
+
 abbrev pub readOf : ItsConfig → ItsRegisters → ℕ → ℕ → Register → ℕ
-readOf k r offset width n = if isWide n then readPart offset width (valueOf k r n) else valueOf k r n
+readOf k r offset width n = readBy (valueOf k r) offset width n
 
 -- Writing.
 
@@ -141,6 +158,9 @@ merged offset width present value =
     then high-half in-place present + low-half of value
     else high-half holding (low-half of value) + low-half of present
 
--- what a write of this width writes to the register that it is to
+-- what a write of this width writes to the register that it is to, where each holds this present value
+abbrev pub writtenBy : (Register → ℕ) → ℕ → ℕ → ℕ → Register → ℕ
+writtenBy present offset width value n = if isWide n then merged offset width (present n) value else value
+
 abbrev pub valueWritten : ItsConfig → ItsRegisters → ℕ → ℕ → ℕ → Register → ℕ
-valueWritten k r offset width value n = if isWide n then merged offset width (valueOf k r n) value else value
+valueWritten k r offset width value n = writtenBy (valueOf k r) offset width value n

@@ -31,16 +31,20 @@ withCollections u cs = aUnit (u .config) (u .registers) (u .devices) cs (u .tran
 abbrev pub withTranslations : ItsState → List Translation → ItsState
 withTranslations u ts = aUnit (u .config) (u .registers) (u .devices) (u .collections) ts
 
--- The registers: enabled or not, CBASER, CREADR, CWRITER, and the eight BASER.
-abbrev pub theRegisters : Bool → ℕ → ℕ → ℕ → List ℕ → ItsRegisters
-theRegisters on cbaser reader writer basers = record { enabled = on; cbaser = cbaser; creadr = reader; cwriter = writer; basers = basers }
+-- The registers: enabled or not, stalled or not (02, A4), CBASER, CREADR, CWRITER, and the eight BASER.
+abbrev pub theRegisters : Bool → Bool → ℕ → ℕ → ℕ → List ℕ → ItsRegisters
+theRegisters on stalled cbaser reader writer basers =
+    record { enabled = on; stalled = stalled; cbaser = cbaser; creadr = reader; cwriter = writer; basers = basers }
 
 abbrev pub withEnabled : ItsRegisters → Bool → ItsRegisters
-withEnabled r on = theRegisters on (r .cbaser) (r .creadr) (r .cwriter) (r .basers)
+withEnabled r on = theRegisters on (r .stalled) (r .cbaser) (r .creadr) (r .cwriter) (r .basers)
+
+abbrev pub withStalled : ItsRegisters → Bool → ItsRegisters
+withStalled r stalled = theRegisters (r .enabled) stalled (r .cbaser) (r .creadr) (r .cwriter) (r .basers)
 
 -- CBASER with both offsets
 abbrev pub withRing : ItsRegisters → ℕ → ℕ → ℕ → ItsRegisters
-withRing r cbaser reader writer = theRegisters (r .enabled) cbaser reader writer (r .basers)
+withRing r cbaser reader writer = theRegisters (r .enabled) (r .stalled) cbaser reader writer (r .basers)
 
 abbrev pub withReader : ItsRegisters → ℕ → ItsRegisters
 withReader r reader = withRing r (r .cbaser) reader (r .cwriter)
@@ -49,7 +53,11 @@ abbrev pub withWriter : ItsRegisters → ℕ → ItsRegisters
 withWriter r writer = withRing r (r .cbaser) (r .creadr) writer
 
 abbrev pub withBasers : ItsRegisters → List ℕ → ItsRegisters
-withBasers r basers = theRegisters (r .enabled) (r .cbaser) (r .creadr) (r .cwriter) basers
+withBasers r basers = theRegisters (r .enabled) (r .stalled) (r .cbaser) (r .creadr) (r .cwriter) basers
+
+-- the unit with Stalled so
+abbrev pub unitStalled : ItsState → Bool → ItsState
+unitStalled u stalled = withRegisters u (withStalled (u .registers) stalled)
 
 -- The configuration: LPI limit, budget, frame, profile, the count of processors, and sixteen of them.
 abbrev pub aConfig : ℕ → ℕ → ℕ → ℕ → ℕ → List GicVcpuId → ItsConfig

@@ -42,9 +42,10 @@ pub struct ItsConfig {
     pub processors: [GicVcpuId; 16],
 }
 
-// What the guest writes and reads back.
+// What the guest writes and reads back; and whether the queue has stopped at a command, which only strict says, shows and heeds.
 pub struct ItsRegisters {
     pub enabled: bool,
+    pub stalled: bool,
     pub cbaser: u64,
     pub creadr: u64,
     pub cwriter: u64,

@@ -3,7 +3,7 @@
 use Prim.Native.Nat.{ℕ, _<_, _≤_}
 use native.Mathlib.Omega.{arith}
 use mathlib.Core.Path.{_≡_, refl, sym, ap, ap₂, subst, _∙_}
-use mathlib.Core.Bool.{Bool, true, false}
+use mathlib.Core.Bool.{Bool, true, false, _&&_, _||_}
 use mathlib.Core.List.{List, [], _∷_, _++_}
 use lib.Dec.{leb}
 use lib.ListN.{length, set, drop}
@@ -14,21 +14,21 @@ use Rattle.model.specs.declared.ItsAction.{ItsAction}
 use Rattle.model.specs.declared.Command.{Command}
 use Rattle.model.specs.declared.Executed.{Executed}
 use Rattle.model.specs.declared.Executed.the-variants.{NotDone, Done, Acted}
-use Rattle.model.specs.declared.Refusal.the-variants.{BudgetExceeded}
 use Rattle.model.specs.Choose.{if_then_else_}
-use Rattle.model.specs.With.{withRegisters}
+use Rattle.model.specs.With.{withRegisters, unitStalled}
+use Rattle.model.specs.Profile.{isStrict}
 use Rattle.model.specs.Step.{check, stepped, executed}
-use Rattle.model.specs.Queue.{Window, Stands, Turn, turn, waiting, commandAddress, judged, pastCommand, run, mayRun}
+use Rattle.model.specs.Queue.{Window, Stands, Turn, turn, waiting, commandAddress, judged, pastCommand, run, stall, halting, mayRun}
 use Rattle.model.specs.Entry.{rowAfter, afterRun}
 use Rattle.model.proofs.Cases.{cases, never}
-use Rattle.model.proofs.Answers.{both-hold, second-fails, first-fails}
+use Rattle.model.proofs.Answers.{both-hold, second-fails, first-fails, halted-answer}
 use Rattle.model.proofs.RunLaws.{stands-stepped, stands-past}
 use Rattle.model.proofs.RowLaws.{rowOf, row-long, rowPast, row-on, row-same}
 use Rattle.answers.specs.declared.Turned.{Turned}
 use Rattle.answers.specs.declared.Counts.{Counts}
-use Rattle.answers.specs.Counting.{handedBy, acts, begun, halted, countedOn}
+use Rattle.answers.specs.Counting.{handedBy, acts, begun, over, countedOn, isHalted}
 use Rattle.answers.proofs.Turning.{Turning, one-by, is-refused, is-done, is-acted}
-use Rattle.answers.proofs.Counting.{Counting, begins, stands, fits, room, turns, fewer, unit-ends, actions-end, answer-ends}
+use Rattle.answers.proofs.Counting.{Counting, begins, stands, fits, room, turns, fewer, left-ends, actions-end, answer-ends}
 use Rattle.decoding.specs.declared.CommandRead.{CommandRead}
 use Rattle.decoding.specs.Reading.{commandRead, turnRead}
 use Rattle.decoding.proofs.Turning.{turn-reads}
@@ -39,10 +39,10 @@ use Rattle.queue.specs.Ongoing.{Ready, Begun, noAction, firstOf, progres
 module _ (u : ItsState) where
   pub counts-off : mayRun (u .config) (u .registers) ≡ false → begun 0 ≡ firstCounts u
   unfolding firstCounts
-  counts-off h = sym (first-fails (mayRun (u .config) (u .registers)) (leb (waiting (u .registers)) (u .config .«command_budget»)) (halted BudgetExceeded) (begun (waiting (u .registers))) (begun 0) h)
+  counts-off h = sym (first-fails (mayRun (u .config) (u .registers)) (leb (waiting (u .registers)) (u .config .«command_budget»)) over (begun (waiting (u .registers))) (begun 0) h)
 
   module _ (on : mayRun (u .config) (u .registers) ≡ true) {n : ℕ} (count : n ≡ waiting (u .registers)) where
-    pub counts-over : u .config .«command_budget» < n → halted BudgetExceeded ≡ firstCounts u
+    pub counts-over : u .config .«command_budget» < n → over ≡ firstCounts u
     unfolding firstCounts
     counts-over h = sym (second-fails (mayRun (u .config) (u .registers)) _ _ _ _ on (lt-leb (waiting (u .registers)) (u .config .«command_budget») (omega arith)))
 
@@ -83,6 +83,25 @@ module _ (t : Progress) (x : Command) (opcode : ℕ) {m : ItsState} (after : m �
     carried-on c a s =
         moves-on t (turning-in e came (read ∙ ap (λ y. if y .passed then pastCommand (m .registers) else m .registers) told)) (c ∙ ap (countedOn (t .counts)) told)
         (s ∙ rw (a, told, acted-in e) refl)
+
+-- The end: a refused command sets Stalled in strict, and nothing else changes.
+module _ (t : Progress) where
+  stalled-by : (b : Bool) →
+      (b && isStrict (t .unit .config .profile) || t .unit .registers .stalled) ≡ (if b then stall (t .unit) else t .unit) .registers .stalled
+  unfolding stall
+  stalled-by true = refl
+  stalled-by false = refl
+
+  pub stalls-so : {b : Bool} → b ≡ isHalted (t .counts .stopped) → (b && isStrict (t .unit .config .profile) || t .unit .registers .stalled) ≡ finishOf t .unit .registers .stalled
+  stalls-so e = rw e (stalled-by (isHalted (t .counts .stopped)))
+
+  unit-by : (b : Bool) → unitStalled (t .unit) ((if b then stall (t .unit) else t .unit) .registers .stalled) ≡ (if b then stall (t .unit) else t .unit)
+  unfolding stall
+  unit-by true = refl
+  unit-by false = refl
+
+  pub finishes-so : {b : Bool} → b ≡ finishOf t .unit .registers .stalled → record { unit = unitStalled (t .unit) b; answer = t .answer } ≡ finishOf t
+  finishes-so e = rw e (ap (λ u. record { unit = u; answer = t .answer }) (unit-by (isHalted (t .counts .stopped))))
 
 -- Between two turns of a write that began as t₀ with the row row₀: t is the write now, and row the row.
 
@@ -211,9 +230,10 @@ module _ (w : Window) (t₀ : Progress) (row₀ : List ItsAction) where
     end-counted g =
         let none-left : t .counts .left ≡ 0 = omega (arith, ltb-false 0 (t .counts .left) (sym (ap (λ s. s .more) (g .is)) ∙ over)) in
         let q = run w (t₀ .counts .left) (t₀ .unit) in
-        let unit : t .unit ≡ q .unit = unit-ends w (g .counting) none-left in
-        let answer : t .answer ≡ afterRun q row₀ .written .answer = ap (λ s. s .answer) (g .is) ∙ answer-ends w (g .counting) none-left in
-        let rows : row ≡ afterRun q row₀ .row =
+        let unit : finishOf t .unit ≡ halting q .unit = left-ends w (g .counting) none-left in
+        let answer : t .answer ≡ afterRun (halting q) row₀ .written .answer =
+        ap (λ s. s .answer) (g .is) ∙ (answer-ends w (g .counting) none-left ∙ sym (halted-answer q)) in
+        let rows : row ≡ afterRun (halting q) row₀ .row =
         g .rows ∙ ap (λ l. l ++ drop (length (g .made)) row₀) (row-same (g .made)) ∙ ap (λ m. rowAfter m row₀) (actions-end w (g .counting) none-left) in
         rw (g .runs) (ap₂ (λ u a. record { unit = u; answer = a }) unit answer, rows)
 

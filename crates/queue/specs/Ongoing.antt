@@ -12,13 +12,12 @@ use Rattle.model.specs.declared.Executed.{Executed}
 use Rattle.model.specs.declared.Executed.the-variants.{NotDone, Done, Acted}
 use Rattle.model.specs.declared.WriteAnswer.{WriteAnswer}
 use Rattle.model.specs.declared.Written.{Written}
-use Rattle.model.specs.declared.Refusal.the-variants.{BudgetExceeded}
 use Rattle.model.specs.Choose.{if_then_else_, _or_then_}
-use Rattle.model.specs.Queue.{Window, Stands, Turn, waiting, commandAddress, run, mayRun}
+use Rattle.model.specs.Queue.{Window, Stands, Turn, waiting, commandAddress, run, halting, mayRun}
 use Rattle.model.specs.Entry.{Outcome, afterRun}
 use Rattle.answers.specs.declared.Turned.{Turned}
 use Rattle.answers.specs.declared.Counts.{Counts}
-use Rattle.answers.specs.Counting.{unitPast, handedBy, acts, passing, staying, turnedBy, begun, halted, countedOn, answering}
+use Rattle.answers.specs.Counting.{unitPast, handedBy, acts, passing, staying, turnedBy, begun, over, countedOn, unitLeft, answering}
 use Rattle.decoding.specs.declared.CommandRead.{CommandRead}
 use Rattle.decoding.specs.Reading.{turnRead}
 use Rattle.queue.specs.declared.Progress.{Progress}
@@ -59,7 +58,7 @@ progressOf u n handed at = progressWith u n (acts handed) (firstOf handed) at
 unfoldable pub firstCounts : ItsState → Counts
 firstCounts u =
     if mayRun (u .config) (u .registers)
-    then (leb (waiting (u .registers)) (u .config .«command_budget») or halted BudgetExceeded then begun (waiting (u .registers)))
+    then (leb (waiting (u .registers)) (u .config .«command_budget») or over then begun (waiting (u .registers)))
     else begun 0
 
 unfoldable pub startOf : ItsState → Progress
@@ -91,11 +90,11 @@ settledOf u a =
 -- The end.
 
 abbrev pub finishOf : Progress → Written
-finishOf t = record { unit = t .unit; answer = t .answer }
+finishOf t = record { unit = unitLeft (t .counts .stopped) (t .unit); answer = t .answer }
 
 -- what a write comes to from its beginning: the run of the commands that are left, or nothing more
 abbrev pub endOf : Window → Progress → List ItsAction → Outcome
-endOf w t row = if t .more then afterRun (run w (t .counts .left) (t .unit)) row else record { written = finishOf t; row = row }
+endOf w t row = if t .more then afterRun (halting (run w (t .counts .left) (t .unit))) row else record { written = finishOf t; row = row }
 
 -- such a beginning, with a row of this many records: where the queue is to run it is a start, with room for each action
 pub record Begun (t : Progress) (room : ℕ) : Type 0 where

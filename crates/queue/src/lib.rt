@@ -94,12 +94,12 @@ fn quiet(unit: ItsState, counts: Counts, at: usize) -> Progress
     stand(unit, counts, false, action, at)
 }
 
-// The queue runs in an enabled unit; in strict only where CBASER's bit 63 is set.
+// The queue runs in an enabled unit; in strict only where CBASER's bit 63 is set and the unit is not stalled.
 fn may_run(config: ItsConfig, registers: ItsRegisters) -> bool
     ensures { λ r. ⌜ r ≡ mayRun config registers ⌝ }
 {
     let valid = registers.cbaser / 0x8000_0000_0000_0000 % 2;
-    let held = (config.profile == 1) & (valid == 0);
+    let held = (config.profile == 1) & ((valid == 0) | registers.stalled);
     registers.enabled & !held
 }
 
@@ -123,7 +123,7 @@ fn first_counts(unit: ItsState) -> Counts
             left: 0,
             done: 0,
             actions: 0,
-            stopped: Stopped::Halted(Refusal::BudgetExceeded, 0),
+            stopped: Stopped::Over,
         };
     }
     Counts {
@@ -250,10 +250,23 @@ pub fn settled(unit: ItsState, answer: WriteAnswer) -> Progress
     }
 }
 
+// In strict a refused command stalls the unit.
+fn is_stalled(t: Progress) -> bool
+    ensures { λ r. ⌜ r ≡ finishOf t .unit .registers .stalled ⌝ }
+{
+    let unit = t.unit;
+    let counts = t.counts;
+    let stopped = counts.stopped;
+    let halted = answers::is_halted(stopped);
+    halted & (unit.config.profile == 1) | unit.registers.stalled
+}
+
 pub fn finish(t: Progress) -> Written
     ensures { λ r. ⌜ r ≡ finishOf t ⌝ }
 {
-    let unit = t.unit;
+    let stalled = is_stalled(t);
+    let mut unit = t.unit;
+    unit.registers.stalled = stalled;
     let answer = t.answer;
     Written {
         unit: unit,

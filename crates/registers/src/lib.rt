@@ -13,8 +13,8 @@ use model::Verdict;
 use model::WriteAnswer;
 ghost use mathlib.Core.Path.{_≡_};
 ghost use lib.ListN.{getD};
-ghost use Rattle.model.specs.Register.{ctlrValue, registerAt, valueOf, readOf, valueWritten};
-ghost use Rattle.model.specs.Writing.{refusing, storing, rebasing, going, toCtlr, toCbaser, writerTaken, writerAccepted, toCwriter, withBaser, toBaser, writeRegister, registerWrite};
+ghost use Rattle.model.specs.Register.{ctlrValue, creadrValue, registerAt, valueOf, readOf, valueWritten};
+ghost use Rattle.model.specs.Writing.{refusing, storing, rebasing, going, toCtlr, toCbaser, retries, offered, writerTaken, writerAccepted, toCwriter, withBaser, toBaser, writeRegister, registerWrite};
 ghost use Rattle.model.specs.Entry.{readFrom};
 
 // GITS_CTLR: the enable bit, and bit 31.
@@ -22,6 +22,17 @@ fn ctlr(enabled: bool) -> u64
     ensures { λ r. ⌜ r ≡ ctlrValue enabled ⌝ }
 {
     if enabled { 0x8000_0001 } else { 0x8000_0000 }
+}
+
+// GITS_CREADR: the offset, and in strict Stalled in bit 0.
+fn creadr(config: ItsConfig, registers: ItsRegisters) -> u64
+    ensures { λ r. ⌜ r ≡ creadrValue config registers ⌝ }
+{
+    let offset = registers.creadr;
+    if (config.profile == 1) & registers.stalled {
+        return offset - offset % 2 + 1;
+    }
+    offset
 }
 
 // GITS_BASER n; 0 where there is none.
@@ -41,7 +52,7 @@ fn register_value(config: ItsConfig, registers: ItsRegisters, register: Register
         Register::Typer => words::its_typer(config.lpi_limit),
         Register::Cbaser => registers.cbaser,
         Register::Cwriter => registers.cwriter,
-        Register::Creadr => registers.creadr,
+        Register::Creadr => creadr(config, registers),
         Register::Baser(index) => baser(registers, index),
         Register::Reserved => 0,
     }
@@ -163,9 +174,9 @@ fn set_enabled(registers: ItsRegisters, value: u64) -> RegisterWrite
     stored_to_run(next)
 }
 
-// Bit 63, Arm's Valid, is not looked at.
-fn set_cbaser(registers: ItsRegisters, value: u64) -> RegisterWrite
-    ensures { λ r. ⌜ r ≡ toCbaser registers value ⌝ }
+// Bit 63, Arm's Valid, is not looked at. In strict Stalled is cleared.
+fn set_cbaser(config: ItsConfig, registers: ItsRegisters, value: u64) -> RegisterWrite
+    ensures { λ r. ⌜ r ≡ toCbaser config registers value ⌝ }
 {
     if registers.enabled {
         return stored(registers);
@@ -174,11 +185,29 @@ fn set_cbaser(registers: ItsRegisters, value: u64) -> RegisterWrite
     if base == 0 {
         return refused(registers, 0, Refusal::BaseZero);
     }
+    let strict = config.profile == 1;
     let mut next = registers;
+    next.stalled = !strict & registers.stalled;
     next.cbaser = value;
     next.creadr = 0;
     next.cwriter = 0;
     stored_anew(next)
+}
+
+// In strict bit 0 of CWRITER is Retry, and no part of the offset.
+fn is_retry(config: ItsConfig, value: u64) -> bool
+    ensures { λ r. ⌜ r ≡ retries config value ⌝ }
+{
+    (config.profile == 1) & (value % 2 == 1)
+}
+
+fn without_retry(config: ItsConfig, value: u64) -> u64
+    ensures { λ r. ⌜ r ≡ offered config value ⌝ }
+{
+    if config.profile == 1 {
+        return value - value % 2;
+    }
+    value
 }
 
 // With CBASER zero the whole value counts.
@@ -201,14 +230,17 @@ fn writer_accepted(registers: ItsRegisters, writer: u64) -> bool
     crate::sizes::is_queue_offset(cbaser, writer)
 }
 
-fn set_cwriter(registers: ItsRegisters, value: u64) -> RegisterWrite
-    ensures { λ r. ⌜ r ≡ toCwriter registers value ⌝ }
+fn set_cwriter(config: ItsConfig, registers: ItsRegisters, value: u64) -> RegisterWrite
+    ensures { λ r. ⌜ r ≡ toCwriter config registers value ⌝ }
 {
-    let writer = writer_taken(registers, value);
+    let offset = without_retry(config, value);
+    let writer = writer_taken(registers, offset);
     if !writer_accepted(registers, writer) {
         return refused(registers, writer, Refusal::WriterRefused);
     }
+    let retry = is_retry(config, value);
     let mut next = registers;
+    next.stalled = !retry & registers.stalled;
     next.cwriter = writer;
     stored_to_run(next)
 }
@@ -236,15 +268,20 @@ fn set_baser(registers: ItsRegisters, index: usize, value: u64) -> RegisterWrite
     stored(next)
 }
 
-fn write_register(registers: ItsRegisters, register: Register, value: u64) -> RegisterWrite
-    ensures { λ r. ⌜ r ≡ writeRegister registers value register ⌝ }
+fn write_register(
+    config: ItsConfig,
+    registers: ItsRegisters,
+    register: Register,
+    value: u64,
+) -> RegisterWrite
+    ensures { λ r. ⌜ r ≡ writeRegister config registers value register ⌝ }
 {
     match register {
         Register::Ctlr => set_enabled(registers, value),
         Register::Iidr => stored(registers),
         Register::Typer => stored(registers),
-        Register::Cbaser => set_cbaser(registers, value),
-        Register::Cwriter => set_cwriter(registers, value),
+        Register::Cbaser => set_cbaser(config, registers, value),
+        Register::Cwriter => set_cwriter(config, registers, value),
         Register::Creadr => stored(registers),
         Register::Baser(index) => set_baser(registers, index, value),
         Register::Reserved => stored(registers),
@@ -259,11 +296,11 @@ fn write_accepted(
     width: u8,
     value: u64,
 ) -> RegisterWrite
-    ensures { λ r. ⌜ r ≡ writeRegister registers (valueWritten config registers offset width value (registerAt offset)) (registerAt offset) ⌝ }
+    ensures { λ r. ⌜ r ≡ writeRegister config registers (valueWritten config registers offset width value (registerAt offset)) (registerAt offset) ⌝ }
 {
     let register = crate::access::register_at(offset);
     let merged = merge_value(config, registers, register, offset, width, value);
-    write_register(registers, register, merged)
+    write_register(config, registers, register, merged)
 }
 
 // A write up to its run; `room` is the length of the row that the host lends.

@@ -8,7 +8,7 @@ use Rattle.lent_queue.proofs.may_run.Tie as tie
 
 returns : tie.Need-returns
 unfolding held mayRun registersIn
-returns c = rw (← (c .before .before .profile-in .ensures)) (search needs)
+returns c = rw (← (c .before .before .before .profile-in .ensures)) (search needs)
 
 pub may-run-spec : {M : Type 1} → statement M
-may-run-spec = tie.close (tie.spec (λ c κs. search needs) (λ c. search needs) (λ c. search needs) returns)
+may-run-spec = tie.close (tie.spec (λ c κs. search needs) (λ c. search needs) (λ c. search needs) (λ c. search needs) returns)

@@ -5,7 +5,7 @@ use native.Mathlib.Omega.{arith}
 use borrow.Author.Needs.{needs}
 use borrow.Author.Tests.{not-true, not-false}
 use Rattle.decoding.specs.Reading.{lent}
-use Rattle.lent_queue.proofs.Queued.{is-off, is-over, is-run, may-run}
+use Rattle.lent_queue.proofs.Queued.{is-off, is-over, is-ended, is-stopped, may-run}
 use Rattle.lent_queue.proofs.process_commands.Statement.{statement}
 use Rattle.lent_queue.proofs.process_commands.Tie as tie
 
@@ -37,19 +37,34 @@ run-requires c κs =
 
 returns-3 : tie.Need-returns-3
 returns-3 c =
-    let r = c .before .before in
+    let f = c .before .before in
+    let e = f .before in
+    let r = e .before .before .before in
     let b = r .before .before .before in
     let k = b .before in
     let w = k .before .before in
     let i = w .before .before in
     let m = i .before in
     let a = m .before .before .before .before .args in
-    is-run (lent (a .address) (a .bytes .now)) (a .state .now) (a .row .now) (sym (m .may-run .ensures) ∙ not-false _ (i .if1 .left)) (w .waiting .ensures)
-    (omega (arith, k .command-budget-in .ensures, b .if2 .left)) (r .run .ensures)
+    is-stopped (lent (a .address) (a .bytes .now)) (a .state .now) (a .row .now) (sym (m .may-run .ensures) ∙ not-false _ (i .if1 .left)) (w .waiting .ensures)
+    (omega (arith, k .command-budget-in .ensures, b .if2 .left)) (r .run .ensures) (sym (e .is-refused .ensures) ∙ f .if3 .taken) (c .stall .ensures)
+
+returns-4 : tie.Need-returns-4
+returns-4 c =
+    let e = c .before in
+    let r = e .before .before .before in
+    let b = r .before .before .before in
+    let k = b .before in
+    let w = k .before .before in
+    let i = w .before .before in
+    let m = i .before in
+    let a = m .before .before .before .before .args in
+    is-ended (lent (a .address) (a .bytes .now)) (a .state .now) (a .row .now) (sym (m .may-run .ensures) ∙ not-false _ (i .if1 .left)) (w .waiting .ensures)
+    (omega (arith, k .command-budget-in .ensures, b .if2 .left)) (r .run .ensures) (sym (e .is-refused .ensures) ∙ c .if3 .left)
 
 pub process-commands-spec : {M : Type 1} → statement M
 process-commands-spec =
     tie.close
     (tie.spec
-    (λ c κs. search needs) returns (λ c κs. search needs) (λ c κs. search needs) (λ c. search needs) (λ c. search needs) returns-2 run-requires (λ c. search needs)
-    returns-3)
+    (λ c κs. search needs) returns (λ c κs. search needs) (λ c κs. search needs) (λ c. search needs) (λ c. search needs) returns-2 run-requires (λ c κs. search needs)
+    (λ c κs. search needs) (λ c. search needs) returns-3 (λ c. search needs) returns-4)

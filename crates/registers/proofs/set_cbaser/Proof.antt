@@ -7,21 +7,22 @@ use Rattle.registers.proofs.set_cbaser.Statement.{statement}
 use Rattle.registers.proofs.set_cbaser.Tie as tie
 
 returns : tie.Need-returns
-returns c = let a = c .before .before .args in c .stored .ensures ∙ sym (cbaser-ignored (a .registers) (a .value) (c .before .if1 .taken))
+returns c = let a = c .before .before .args in c .stored .ensures ∙ sym (cbaser-ignored (a .registers) (a .value) (a .config) (c .before .if1 .taken))
 
 returns-2 : tie.Need-returns-2
 returns-2 c =
     let q = c .before .before in
     let i = q .before in
     let a = i .before .args in
-    c .refused .ensures ∙ sym (cbaser-refused (a .registers) (a .value) (i .if1 .left) (q .queue-base .result) (q .queue-base .ensures) (c .before .if2 .taken))
+    c .refused .ensures ∙ sym (cbaser-refused (a .registers) (a .value) (a .config) (i .if1 .left) (q .queue-base .result) (q .queue-base .ensures) (c .before .if2 .taken))
 
 returns-3 : tie.Need-returns-3
 returns-3 c =
-    let q = c .before .before in
+    let e = c .before .before .before in
+    let q = e .before in
     let i = q .before in
     let a = i .before .args in
-    c .stored-anew .ensures ∙ sym (cbaser-stored (a .registers) (a .value) (i .if1 .left) (q .queue-base .result) (q .queue-base .ensures) (c .before .if2 .left))
+    c .stored-anew .ensures ∙ sym (cbaser-stored (a .registers) (a .value) (a .config) (i .if1 .left) (q .queue-base .result) (q .queue-base .ensures) (e .if2 .left))
 
 pub set-cbaser-spec : {M : Type 1} → statement M
 set-cbaser-spec =
