@@ -14,7 +14,7 @@ struct Edit {
     to: &'static str,
 }
 
-const EDITS: [Edit; 14] = [
+const EDITS: [Edit; 15] = [
     Edit {
         name: "queue-distance",
         file: MOD,
@@ -141,6 +141,18 @@ const EDITS: [Edit; 14] = [
 ",
         to: "        self.creadr = 0;
         Ok(())
+",
+    },
+    // Retry, which a base unit does not have.
+    Edit {
+        name: "writer-takes-retry-off",
+        file: MOD,
+        from: "        if self.cbaser == 0 {
+            if writer == 0 {
+",
+        to: "        let writer = writer & !1;
+        if self.cbaser == 0 {
+            if writer == 0 {
 ",
     },
 ];

@@ -11,6 +11,11 @@ pub const STRICT: u8 = 1;
 /// The refusal that only a strict unit has: the command's device is too large.
 pub const DEVICE_TOO_LARGE: u8 = 27;
 
+/// Bit 0 of a strict unit's CWRITER, where it is written, and of its CREADR, where it
+/// is read.
+pub const RETRY: u64 = 1;
+pub const STALLED: u64 = 1;
+
 #[derive(Clone, Debug, Eq, PartialEq)]
 pub enum Record {
     Cf(Configuration),

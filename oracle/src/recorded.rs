@@ -121,15 +121,18 @@ fn assembled(folder: &Path) -> Result<Vec<Named>, String> {
 fn seeds() -> Vec<Named> {
     let mut traces = Vec::new();
     for place in 0..generate::PLACES {
-        traces.extend(
-            (place..)
-                .step_by(generate::PLACES as usize)
-                .map(|seed| (format!("seed-{seed}"), trace_for(seed)))
-                .filter(|(_, trace)| trace.len() <= LONGEST_SEED)
-                .take(SEEDS_OF_A_FAMILY),
-        );
+        traces.extend(short((place..).step_by(generate::PLACES as usize)));
     }
+    traces.extend(short(generate::FIRST_OF_RETRIES..));
     traces
+}
+
+/// The first of these seeds whose traces are short.
+fn short(seeds: impl Iterator<Item = u64>) -> impl Iterator<Item = Named> {
+    seeds
+        .map(|seed| (format!("seed-{seed}"), trace_for(seed)))
+        .filter(|(_, trace)| trace.len() <= LONGEST_SEED)
+        .take(SEEDS_OF_A_FAMILY)
 }
 
 /// Traces run one after the other are one trace, since each begins with a CF.

@@ -13,6 +13,7 @@
 //!   repeat 127 sync               any line of a window, so many times
 //! rd cbaser+4 4                   register (name, name+n or number), width
 //! wr cwriter 8 128                register, width, value
+//! wr cwriter retry 8 128          the same with Retry, bit 0 of CWRITER: 129 is written
 //! tr 5 9                          device, event
 //! raw 5858                        bytes outside any record
 //! ```

@@ -1,12 +1,13 @@
 //! Whether lines can be the answer to a trace at all, without asking the Rust:
 //! a line for each record in order, its numbers in decimal and within their
-//! kinds, a refusal with an opcode that can have it and a 27 only from a strict
-//! unit, no more actions than commands done, as many AC lines as the write before
-//! them says, and `??` with the right offset where the trace breaks off.
+//! kinds, a refusal with an opcode and an offset that can have it and a 27 only from
+//! a strict unit, offsets of commands that are multiples of 32 but for Stalled in a
+//! strict unit's CREADR, no more actions than commands done, as many AC lines as the
+//! write before them says, and `??` with the right offset where the trace breaks off.
 
+use oracle::fields::{BYTES_OF_A_COMMAND, NAME_A_DEVICE, SYNC};
 use oracle::fields::{CLEAR, DISCARD, INT, INV, INVALL, MAPC, MAPD, MAPI, MAPTI, MOVI};
-use oracle::fields::{NAME_A_DEVICE, SYNC};
-use oracle::record::{DEVICE_TOO_LARGE, Record, Records};
+use oracle::record::{DEVICE_TOO_LARGE, Record, Records, STALLED};
 use oracle::room::MOST_OUTPUT;
 
 /// The longest line that there is: a mark, five numbers of twenty digits with a
@@ -49,14 +50,17 @@ pub fn fault(trace: &[u8], lines: &[u8], cut: bool) -> Option<String> {
             && match (&next, &numbers[..]) {
                 (Ok(Record::Cf(_)), [refusal]) => *refusal <= 1,
                 (Ok(Record::Gm { .. }), [refusal]) => *refusal == 0,
-                (Ok(Record::Rd { .. }), [refusal, value]) => {
-                    matches!(refusal, 0..=3) && (*refusal == 0 || *value == 0)
+                (Ok(Record::Rd { offset, .. }), [refusal, value]) => {
+                    matches!(refusal, 0..=3)
+                        && (*refusal == 0 || *value == 0)
+                        && reads(*offset, *value, strict)
                 }
                 (Ok(Record::Tr { .. }), [refusal, lpi, processor]) => {
                     matches!(refusal, 0 | 1 | 8) && (*refusal == 0 || *lpi == 0 && *processor == 0)
                 }
-                (Ok(Record::Wr { .. }), [refusal, opcode, _, done, actions]) => {
+                (Ok(Record::Wr { .. }), [refusal, opcode, offset, done, actions]) => {
                     refuses(*refusal, *opcode, *done)
+                        && stands(*refusal, *offset, strict)
                         && (strict || *refusal != u64::from(DEVICE_TOO_LARGE))
                         && *done <= 1024
                         && actions <= done
@@ -105,6 +109,28 @@ fn refuses(refusal: u64, opcode: u64, done: u64) -> bool {
         26 => opcode == MAPC,
         27 => NAME_A_DEVICE.contains(&opcode),
         _ => false,
+    }
+}
+
+/// Whether a write can have this offset with its refusal: that of a command is a
+/// multiple of 32, without Stalled; a strict unit tells that of CWRITER without Retry.
+fn stands(refusal: u64, offset: u64, strict: bool) -> bool {
+    match refusal {
+        0..=4 => offset == 0,
+        7 => !strict || offset.is_multiple_of(2),
+        _ => offset.is_multiple_of(BYTES_OF_A_COMMAND as u64),
+    }
+}
+
+/// Whether a register at this offset can read this value: CWRITER and CREADR are
+/// multiples of 32 in their low halves, CREADR with Stalled in a strict unit.
+fn reads(offset: u64, value: u64, strict: bool) -> bool {
+    let beside = value % BYTES_OF_A_COMMAND as u64;
+    match offset {
+        0x88 => beside == 0,
+        0x90 => beside == 0 || strict && beside == STALLED,
+        0x8c | 0x94 => value == 0,
+        _ => true,
     }
 }
 

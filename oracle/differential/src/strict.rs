@@ -114,25 +114,40 @@ impl Compared {
         exhaustive: u64,
         seconds: f64,
     ) -> Result<String, String> {
-        let counts = self.met.counts();
-        let never = counts.iter().find(|(_, count)| *count == 0);
-        if let Some((rule, _)) = never
-            && traces.count >= ENOUGH
-        {
-            return Err(format!("No difference was found, but never {rule}."));
+        let never: Vec<&str> = self
+            .met
+            .counts()
+            .filter(|(_, count)| *count == 0)
+            .map(|(rule, _)| rule)
+            .collect();
+        if !never.is_empty() && traces.count >= ENOUGH {
+            let never = never.join("; never ");
+            return Err(format!("No difference was found, but never {never}."));
         }
-        let met = counts.map(|(rule, count)| format!("{rule} {}", grouped(count)));
         let last = traces.from.wrapping_add(traces.count.saturating_sub(1));
         Ok(format!(
             "Compared: strict units of {call}, with two units of the published Rust that stand in for one.\n\
              {} traces of seeds {} to {last}, {} exhaustive traces; {} bytes of trace, {} lines: 0 differences,\n\
-             {seconds:.1} s. Met: {}.\n",
+             {seconds:.1} s. Met:\n{}",
             grouped(traces.count),
             traces.from,
             grouped(exhaustive),
             grouped(self.bytes),
             grouped(self.lines),
-            met.join(", "),
+            self.rules(),
         ))
+    }
+
+    /// How often each rule was met, some in a line.
+    fn rules(&self) -> String {
+        let met: Vec<String> = self
+            .met
+            .counts()
+            .map(|(rule, count)| format!("{rule} {}", grouped(count)))
+            .collect();
+        let lines = met
+            .chunks(4)
+            .map(|rules| format!("  {}\n", rules.join(", ")));
+        lines.collect()
     }
 }

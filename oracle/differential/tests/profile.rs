@@ -6,8 +6,12 @@ mod planted;
 
 use differential::call::c_call;
 use differential::run::{Traces, run};
+use oracle::answers::answers;
+use oracle::compare::OF_A_COMMAND;
 use oracle::fields::{BYTES_OF_A_COMMAND, Fields, words_of};
-use oracle::record::{BASE, Configuration, Record, Records, STRICT};
+use oracle::record::{BASE, Configuration, RETRY, Record, Records, STRICT};
+use oracle::room::{returned, written};
+use oracle::strict::{Fault, faulty_lines};
 use planted::{edited, not_of_a_base_unit, other_when_folded};
 
 /// The call on a trace with other bytes for each CF.
@@ -85,7 +89,7 @@ fn a_misread_profile_is_found() {
 }
 
 /// Base units that are strict in all. What is found hangs on the trace: a ring
-/// without bit 63, a large device or a pair that is gone.
+/// without bit 63, a large device, a pair that is gone, Retry or Stalled.
 #[test]
 fn base_units_that_are_strict_are_found() {
     let traces = Traces {
@@ -96,23 +100,32 @@ fn base_units_that_are_strict_are_found() {
     run(takes::<BASE, STRICT>, "a call", &traces).expect_err("the planted fault is found");
 }
 
-/// Whether a trace names no device above 65535 and gives no ring without bit 63.
+/// Whether a trace names no device above 65535, gives no ring without bit 63, writes no
+/// Retry, and has no command that is refused.
 fn plain(trace: &[u8]) -> bool {
-    Records::of(trace).all(|record| match record {
-        Ok(Record::Gm { bytes, .. }) => {
-            let (commands, _) = bytes.as_chunks::<BYTES_OF_A_COMMAND>();
-            let devices = commands
-                .iter()
-                .map(|command| Fields::of(&words_of(command)).device);
-            devices.max().unwrap_or(0) <= 0xffff
-        }
-        Ok(Record::Wr {
-            offset,
-            width,
-            value,
-        }) => !(0x80..0x88).contains(&offset) || width == 8 && value >> 63 == 1,
-        _ => true,
-    })
+    let told = String::from_utf8(answers(trace).told).expect("lines are text");
+    let refused = OF_A_COMMAND.map(|refusal| format!("WR {refusal} "));
+    let refused = |line: &str| refused.iter().any(|refused| line.starts_with(refused));
+    !told.lines().any(refused)
+        && Records::of(trace).all(|record| match record {
+            Ok(Record::Gm { bytes, .. }) => {
+                let (commands, _) = bytes.as_chunks::<BYTES_OF_A_COMMAND>();
+                let devices = commands
+                    .iter()
+                    .map(|command| Fields::of(&words_of(command)).device);
+                devices.max().unwrap_or(0) <= 0xffff
+            }
+            Ok(Record::Wr {
+                offset,
+                width,
+                value,
+            }) => match offset {
+                0x80..0x88 => width == 8 && value >> 63 == 1,
+                0x88 => value & RETRY == 0,
+                _ => true,
+            },
+            _ => true,
+        })
 }
 
 /// Where nothing else can tell: a mapped device that is mapped again loses its pairs.
@@ -127,6 +140,42 @@ fn drops_pairs(trace: &[u8], output: &mut [u8]) -> u64 {
 #[test]
 fn base_units_that_drop_pairs_are_found() {
     other_when_folded(drops_pairs, "", "");
+}
+
+/// Base units take bit 0 off CWRITER, as strict ones do.
+fn takes_retry_off(trace: &[u8], output: &mut [u8]) -> u64 {
+    let mut other = Vec::new();
+    for next in Records::of(trace) {
+        match next {
+            Ok(mut record) => {
+                if let Record::Wr {
+                    offset: 0x88,
+                    width: 4 | 8,
+                    value,
+                } = &mut record
+                {
+                    *value &= !RETRY;
+                }
+                record.encode(&mut other);
+            }
+            Err(malformed) => other.extend(&trace[malformed.offset..]),
+        }
+    }
+    c_call(&other, output)
+}
+
+/// Base units show in CREADR that they stand at a command.
+fn shows_stalled(trace: &[u8], output: &mut [u8]) -> u64 {
+    let lines = faulty_lines(trace, Fault::BaseShowsStalled).lines;
+    let fits = written(&lines, output.len());
+    output[..fits].copy_from_slice(&lines[..fits]);
+    returned(&lines, output.len())
+}
+
+#[test]
+fn base_units_with_retry_or_stalled_are_found() {
+    other_when_folded(takes_retry_off, "WR ", "WR 7 0 ");
+    other_when_folded(shows_stalled, "RD 0 ", "RD 0 ");
 }
 
 /// A 27 in place of a reason that a base unit has.

@@ -92,3 +92,36 @@ fn a_write_has_at_most_the_actions_of_what_it_did() {
         assert!(!can_be(line), "{line}");
     }
 }
+
+/// Retry and Stalled: bit 0 stands in a strict unit's CREADR and nowhere else, but for
+/// the offset of a CWRITER write that a base unit refuses.
+#[test]
+fn bit_0_stands_where_it_may() {
+    let in_units = |profile: &str, record: &str, line: &str| {
+        let text = format!(
+            "cf limit=65535 budget=64 frame=65536 profile={profile} processors=0\n{record}\n"
+        );
+        let trace = assemble(&text).expect("a well-formed text");
+        fault(&trace, format!("CF 0\n{line}\n").as_bytes(), false).is_none()
+    };
+    for (record, line, base, strict) in [
+        ("rd creadr 8", "RD 0 32", true, true),
+        ("rd creadr 8", "RD 0 33", false, true),
+        ("rd creadr 4", "RD 0 33", false, true),
+        ("rd creadr 4", "RD 0 34", false, false),
+        ("rd creadr+4 4", "RD 0 1", false, false),
+        ("rd cwriter 8", "RD 0 33", false, false),
+        ("rd cwriter 4", "RD 0 32", true, true),
+        ("rd cwriter+4 4", "RD 0 1", false, false),
+        ("rd ctlr 4", "RD 0 2147483649", true, true),
+        ("wr cwriter retry 8 64", "WR 7 0 65 0 0", true, false),
+        ("wr cwriter retry 8 66", "WR 7 0 66 0 0", true, true),
+        ("wr cwriter 8 64", "WR 8 3 33 1 0", false, false),
+        ("wr cwriter 8 64", "WR 5 0 33 0 0", false, false),
+        ("wr cwriter 8 64", "WR 6 0 33 0 0", false, false),
+        ("wr cwriter 8 64", "WR 0 0 1 0 0", false, false),
+    ] {
+        assert_eq!(in_units("base", record, line), base, "{record}, {line}");
+        assert_eq!(in_units("strict", record, line), strict, "{record}, {line}");
+    }
+}

@@ -6,7 +6,9 @@ mod planted;
 use differential::call::{Call, c_call};
 use differential::run::Traces;
 use differential::strict::strict;
-use oracle::record::{BASE, Record, Records, STRICT};
+use oracle::record::{BASE, RETRY, Record, Records, STRICT};
+use oracle::room::{returned, written};
+use oracle::strict::{FAULTS, Fault, Rule, faulty_lines, lines};
 use planted::edited;
 
 const TRACES: Traces = Traces {
@@ -85,11 +87,25 @@ fn only_valid_rings(record: &Record) -> bool {
     }
 }
 
+fn no_retry(record: &Record) -> bool {
+    !matches!(record, Record::Wr { offset: 0x88, value, .. } if value & RETRY != 0)
+}
+
 /// Pairs stay where a mapped device is mapped again: no other rule is met in these
 /// traces.
 fn keeps_pairs(trace: &[u8], output: &mut [u8]) -> u64 {
+    let met = lines(trace).met;
+    let stalls = [
+        Rule::StalledBy6,
+        Rule::StalledBy8,
+        Rule::StalledBy9,
+        Rule::StalledByCheck,
+    ];
+    if stalls.into_iter().any(|rule| met.of(rule) > 0) {
+        return c_call(trace, output);
+    }
     base_where(trace, output, |record| {
-        no_large_device(record) && only_valid_rings(record)
+        no_large_device(record) && only_valid_rings(record) && no_retry(record)
     })
 }
 
@@ -162,8 +178,7 @@ fn rings_that_run_without_bit_63_are_found() {
 
 /// Where a ring is held with more than the budget, a 5 for a write that has 0.
 fn gives_5(trace: &[u8], output: &mut [u8]) -> u64 {
-    let right = oracle::strict::lines(trace);
-    if right.met.held_beyond_budget == 0 {
+    if lines(trace).met.of(Rule::HeldBeyondBudget) == 0 {
         return c_call(trace, output);
     }
     edited(trace, output, |lines| {
@@ -179,4 +194,70 @@ fn gives_5(trace: &[u8], output: &mut [u8]) -> u64 {
 #[test]
 fn a_5_for_a_held_ring_is_found() {
     found_at(gives_5, "WR 5 0 0 0 0", "WR 0 0 0 0 0");
+}
+
+/// In place of the call, units that are wrong in one thing about Retry and Stalled, and
+/// right in all else.
+fn faulty<const FAULT: usize>(trace: &[u8], output: &mut [u8]) -> u64 {
+    let lines = faulty_lines(trace, FAULTS[FAULT]).lines;
+    let fits = written(&lines, output.len());
+    output[..fits].copy_from_slice(&lines[..fits]);
+    returned(&lines, output.len())
+}
+
+/// One fault is found, in a read or in the answer to a write.
+macro_rules! fault_is_found {
+    ($fault:ident, $line:literal) => {
+        found_at(faulty::<{ Fault::$fault as usize }>, $line, $line);
+    };
+}
+
+#[test]
+fn a_retry_that_is_kept_or_told_is_found() {
+    fault_is_found!(RetryStored, "RD 0 ");
+    fault_is_found!(RetryReported, "WR 7 0 ");
+    fault_is_found!(StalledReported, "WR ");
+}
+
+#[test]
+fn refusals_that_stall_wrongly_are_found() {
+    fault_is_found!(FiveStalls, "");
+    fault_is_found!(SixDoesNotStall, "");
+    fault_is_found!(EightDoesNotStall, "");
+    fault_is_found!(NineDoesNotStall, "");
+    fault_is_found!(CheckDoesNotStall, "");
+}
+
+#[test]
+fn what_goes_on_or_clears_wrongly_is_found() {
+    fault_is_found!(ControlRetries, "");
+    fault_is_found!(WriterRetries, "");
+    fault_is_found!(HighHalfRetries, "");
+    fault_is_found!(RefusedRetryClears, "");
+    fault_is_found!(IgnoredBaseClears, "");
+    fault_is_found!(RefusedBaseClears, "");
+    fault_is_found!(ConfigurationKeeps, "RD 0 ");
+}
+
+#[test]
+fn what_does_not_clear_or_not_go_on_is_found() {
+    fault_is_found!(StoredBaseKeeps, "");
+    fault_is_found!(DisabledRetryKeeps, "");
+    fault_is_found!(RetryOnlyClears, "");
+    fault_is_found!(RetryWithFiveKeeps, "");
+}
+
+#[test]
+fn a_5_of_a_stalled_unit_is_found() {
+    found_at(
+        faulty::<{ Fault::StalledAnswersFive as usize }>,
+        "WR 5 0 ",
+        "WR 0 0 0 0 0",
+    );
+}
+
+#[test]
+fn stalled_in_the_wrong_half_is_found() {
+    fault_is_found!(LowHalfHides, "RD 0 ");
+    fault_is_found!(HighHalfShows, "RD 0 ");
 }

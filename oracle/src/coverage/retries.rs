@@ -1,16 +1,34 @@
 //! What follows a run that stopped: the same refusal again, or it goes on. By
 //! the Rust's kinds of error: 7 stands for every check of a command.
+//!
+//! And CWRITER with Retry, which only strict units have: the Rust refuses each such
+//! write, and goes on as if it had not been. (What strict units do with it is counted
+//! in `strict::Met`.)
 
 use super::Part;
 use super::counts::Counts;
 use super::state::Seen;
 use crate::answers::Answer;
-use crate::record::Record;
+use crate::record::{RETRY, Record};
 use crate::unit::Written;
+
+/// The row of CWRITER writes with Retry.
+const REFUSED: &str = "Retry in base, refused";
+/// Beside what stopped the run before.
+const COLUMNS: [&str; 6] = [
+    "before CBASER",
+    "with a ring",
+    "beyond the ring",
+    "while disabled",
+    "by the low half",
+    "and then on",
+];
 
 #[derive(Default)]
 pub struct Retries {
     stopped: Option<u8>,
+    /// Retry was refused since.
+    refused: bool,
 }
 
 impl Part for Retries {
@@ -27,6 +45,9 @@ impl Part for Retries {
             }
             rows.push((format!("retry by {by}"), columns));
         }
+        let mut columns = COLUMNS.map(String::from).to_vec();
+        columns.extend((5..=8).map(after));
+        rows.push((REFUSED.into(), columns));
         rows
     }
 
@@ -36,8 +57,19 @@ impl Part for Retries {
 
     fn see(&mut self, seen: &Seen<'_>, counts: &mut Counts) {
         match (seen.record, seen.answer) {
-            (Record::Cf(_), _) => self.stopped = None,
-            (Record::Wr { offset, .. }, Answer::Wr(written)) => {
+            (Record::Cf(_), _) => self.begin(),
+            (
+                Record::Wr {
+                    offset,
+                    width,
+                    value,
+                },
+                Answer::Wr(written),
+            ) => {
+                let retry = *offset == 0x88 && value & RETRY != 0;
+                if retry && !matches!(written.refusal, 1 | 2) {
+                    self.with_retry(seen, *width, written, counts);
+                }
                 self.written(seen, *offset, written, counts);
             }
             _ => {}
@@ -46,9 +78,30 @@ impl Part for Retries {
 }
 
 impl Retries {
+    fn with_retry(&mut self, seen: &Seen<'_>, width: u8, written: &Written, counts: &mut Counts) {
+        assert_eq!(written.refusal, 7, "a base unit refuses bit 0 of CWRITER");
+        let ring = seen.before.cbaser != 0;
+        let beyond = ring && written.offset >= seen.before.pages() << 12;
+        for (holds, column) in [
+            (!ring, "before CBASER"),
+            (ring, "with a ring"),
+            (beyond, "beyond the ring"),
+            (!seen.before.enabled, "while disabled"),
+            (width == 4, "by the low half"),
+        ] {
+            if holds {
+                counts.add(REFUSED, column);
+            }
+        }
+        if let Some(refusal) = self.stopped {
+            counts.add(REFUSED, &after(refusal));
+            self.refused = true;
+        }
+    }
+
     fn written(&mut self, seen: &Seen<'_>, offset: u64, written: &Written, counts: &mut Counts) {
         if matches!(offset, 0x80 | 0x84) && seen.after.waiting() == 0 {
-            self.stopped = None;
+            *self = Self::default();
         }
         let by = match offset {
             0x0 => "CTLR",
@@ -65,11 +118,15 @@ impl Retries {
             let row = format!("retry by {by}");
             if written.done > 0 {
                 counts.add(&row, &goes_on(refusal));
+                if std::mem::take(&mut self.refused) {
+                    counts.add(REFUSED, "and then on");
+                }
             } else if written.refusal == refusal {
                 counts.add(&row, &again(refusal));
             }
         }
         self.stopped = matches!(written.refusal, 5..=8).then_some(written.refusal);
+        self.refused &= self.stopped.is_some();
     }
 }
 
@@ -79,4 +136,8 @@ fn again(refusal: u8) -> String {
 
 fn goes_on(refusal: u8) -> String {
     format!("on after {refusal}")
+}
+
+fn after(refusal: u8) -> String {
+    format!("after {refusal}")
 }

@@ -59,24 +59,34 @@ impl Guest {
     pub fn settle(&mut self, stop: Stop) {
         let mut stop = stop;
         for _ in 0..12 {
-            if stop == Stop::Nowhere || stop == Stop::Full {
+            if self.over(stop) {
                 return;
+            }
+            if self.stalled.is_some() && self.random.once_in(3) {
+                self.look_at_the_reader();
             }
             if self.random.once_in(4) {
                 stop = self.retry();
             }
             stop = match stop {
-                Stop::Nowhere | Stop::Full => return,
+                Stop::Nowhere => return,
+                Stop::Full if !self.strict() => return,
                 Stop::Held => self.with_a_valid_ring(),
                 Stop::Budget => self.nearer(),
                 Stop::Window => {
                     self.lend_up_to(self.ring.writer);
                     self.retry()
                 }
-                Stop::Refused => self.repair(),
+                Stop::Refused | Stop::Full => self.repair(),
             };
         }
         self.start_again();
+    }
+
+    /// Whether nothing is left to see to: of a base unit nothing after a 9, at which
+    /// the Rust's run ends.
+    fn over(&self, stop: Stop) -> bool {
+        stop == Stop::Nowhere || stop == Stop::Full && !self.strict()
     }
 
     /// After a 5: a writer that the budget reaches, by CWRITER alone or by

@@ -5,6 +5,7 @@ mod configurations;
 mod malformed;
 mod ordinary;
 mod registers;
+mod retries;
 mod rings;
 mod tables;
 mod windows;
@@ -12,7 +13,10 @@ mod windows;
 use super::random::Random;
 
 /// A family writes one trace from the numbers it draws, for units of a profile.
-type Family = fn(Random, u8) -> Vec<u8>;
+pub type Family = fn(Random, u8) -> Vec<u8>;
+
+/// Drivers that try to go on in all ways, most of them with Retry.
+pub const RETRIES: Family = retries::trace;
 
 /// In turn, seed by seed; the commonest guests stand several times.
 pub const FAMILIES: [Family; 16] = [

@@ -1,12 +1,13 @@
 //! A guest that writes a trace: it keeps a ring, posts commands and believes
 //! things about the unit.
 
+use super::base::base_after;
 use super::believed::{Believed, Expected};
 use super::keys::{self, Keys};
 use super::random::Random;
 use super::ring::Ring;
 use crate::fields::{BYTES_OF_A_COMMAND, Words};
-use crate::record::{Configuration, LONGEST_WINDOW, Record, STRICT};
+use crate::record::{Configuration, LONGEST_WINDOW, RETRY, Record, STRICT};
 
 pub const CTLR: u64 = 0x0;
 pub const CBASER: u64 = 0x80;
@@ -16,16 +17,6 @@ pub const BASER: u64 = 0x100;
 
 const PLACES_OF_A_WINDOW: usize = LONGEST_WINDOW / BYTES_OF_A_COMMAND;
 
-const BASES: [u64; 6] = [
-    0x1000,
-    0x4000_0000,
-    0xffff_f000,
-    0x1_0000_0000,
-    0x0000_8000_1234_5000,
-    // The last page below 2^52: the ring's second page lies beyond.
-    0x000f_ffff_ffff_f000,
-];
-
 pub struct Guest {
     pub random: Random,
     pub configuration: Configuration,
@@ -33,6 +24,9 @@ pub struct Guest {
     pub believed: Believed,
     pub ring: Ring,
     pub enabled: bool,
+    /// What a strict unit stalled at, until something clears it.
+    pub stalled: Option<Stop>,
+    pub cbaser: u64,
     pub trace: Vec<u8>,
     window: (u64, usize),
 }
@@ -65,6 +59,8 @@ impl Guest {
             believed: Believed::default(),
             ring: Ring::default(),
             enabled: false,
+            stalled: None,
+            cbaser: 0,
             trace: Vec::new(),
             window: (0, 0),
         };
@@ -84,6 +80,12 @@ impl Guest {
         self.believed = Believed::default();
         self.ring = Ring::default();
         self.enabled = false;
+        self.stalled = None;
+        self.cbaser = 0;
+    }
+
+    pub fn strict(&self) -> bool {
+        self.configuration.profile == STRICT
     }
 
     pub fn read(&mut self, offset: u64, width: u8) {
@@ -91,6 +93,9 @@ impl Guest {
     }
 
     pub fn write(&mut self, offset: u64, width: u8, value: u64) {
+        if !self.enabled {
+            self.cbaser = base_after(self.cbaser, offset, width, value);
+        }
         self.record(&Record::Wr {
             offset,
             width,
@@ -103,35 +108,6 @@ impl Guest {
             device: pair.0,
             event: pair.1,
         });
-    }
-
-    /// Gives a disabled unit a ring, most often a valid one.
-    pub fn set_ring(&mut self, base: u64, pages: usize) {
-        let beside = self.random.number();
-        let valid = !self.random.once_in(4);
-        self.give_ring(base, pages, valid, beside);
-    }
-
-    /// Gives a disabled unit a ring, whole or by halves, with any bits beside it.
-    pub fn give_ring(&mut self, base: u64, pages: usize, valid: bool, beside: u64) {
-        let beside = beside & 0x7ff0_0000_0000_0f00;
-        let value = base | (pages as u64 - 1) | beside | u64::from(valid) << 63;
-        match self.random.below(4) {
-            0 => {
-                self.write(CBASER, 4, value | 0xabcd_0000_0000_0000);
-                self.write(CBASER + 4, 4, value >> 32);
-            }
-            1 => {
-                self.write(CBASER + 4, 4, value >> 32);
-                self.write(CBASER, 4, value);
-            }
-            _ => self.write(CBASER, 8, value),
-        }
-        self.ring = Ring::new(base, pages, valid);
-    }
-
-    pub fn some_base(&mut self) -> u64 {
-        self.random.pick(&BASES)
     }
 
     /// Disables the unit; any even value does.
@@ -190,13 +166,27 @@ impl Guest {
         place
     }
 
-    /// Writes CWRITER in one of the forms that mean the same.
+    /// Writes CWRITER, to a strict unit now and then with Retry.
     pub fn write_writer(&mut self, place: usize) -> Stop {
+        let retry = self.strict() && self.random.once_in(8);
+        self.write_writer_as(place, retry)
+    }
+
+    /// Writes CWRITER in one of the forms that mean the same, with Retry or without. A
+    /// base unit refuses one with Retry, and runs nothing.
+    pub fn write_writer_as(&mut self, place: usize, retry: bool) -> Stop {
         let value = (place * BYTES_OF_A_COMMAND) as u64;
+        let value = if retry { value | RETRY } else { value };
         match self.random.below(6) {
             0 => self.write(CWRITER, 8, value | 0xfff0_0000),
             1 | 2 => self.write(CWRITER, 4, value | 0xffff_ffff_0000_0000),
             _ => self.write(CWRITER, 8, value),
+        }
+        if retry && !self.strict() {
+            return Stop::Nowhere;
+        }
+        if retry {
+            self.stalled = None;
         }
         self.ring.writer = place;
         self.run()
@@ -204,6 +194,9 @@ impl Guest {
 
     /// Asks an enabled unit to go on, without a change of the writer.
     pub fn retry(&mut self) -> Stop {
+        if self.strict() {
+            return self.retry_in_strict();
+        }
         match self.random.below(5) {
             0 | 1 => self.enable(),
             2 => {
@@ -220,29 +213,41 @@ impl Guest {
     }
 
     /// What the unit should do with the ring now.
-    fn run(&mut self) -> Stop {
+    pub fn run(&mut self) -> Stop {
         if !self.enabled || self.ring.waiting() == 0 {
             return Stop::Nowhere;
         }
-        if self.configuration.profile == STRICT && !self.ring.valid {
+        if self.strict() && !self.ring.valid {
             return Stop::Held;
+        }
+        if let Some(stop) = self.stalled {
+            return stop;
         }
         if self.ring.waiting() > self.configuration.budget as usize {
             return Stop::Budget;
         }
         while self.ring.reader != self.ring.writer {
             let place = self.ring.reader;
-            if !self.in_window(self.ring.address(place)) {
-                return Stop::Window;
+            if let Err(stop) = self.carried_out(place) {
+                self.stalled = self.strict().then_some(stop);
+                return stop;
             }
-            let command = self.ring.places[place];
-            match self.believed.carry_out(&command, &self.configuration) {
-                Expected::Accepted => self.ring.reader = self.ring.after(place, 1),
-                Expected::Refused => return Stop::Refused,
-                Expected::Full => return Stop::Full,
-            }
+            self.ring.reader = self.ring.after(place, 1);
         }
         Stop::Nowhere
+    }
+
+    /// The command of a place carried out, or why it should stop the run.
+    fn carried_out(&mut self, place: usize) -> Result<(), Stop> {
+        if !self.in_window(self.ring.address(place)) {
+            return Err(Stop::Window);
+        }
+        let command = self.ring.places[place];
+        match self.believed.carry_out(&command, &self.configuration) {
+            Expected::Accepted => Ok(()),
+            Expected::Refused => Err(Stop::Refused),
+            Expected::Full => Err(Stop::Full),
+        }
     }
 
     fn in_window(&self, address: u64) -> bool {

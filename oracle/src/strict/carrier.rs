@@ -4,8 +4,8 @@ use std::sync::Arc;
 
 use arm_vgic::{Delivered, GITS_CBASER, GITS_CTLR, GITS_CWRITER};
 
-use crate::command::sync;
-use crate::fields::{Words, bytes_of};
+use crate::command::{discard, sync, unmapc, unmapd};
+use crate::fields::{Fields, MAPC, MAPD, Words, bytes_of};
 use crate::unit::Unit;
 use crate::window::Window;
 
@@ -37,12 +37,28 @@ impl Carrier {
         self.writer = (self.writer + 32) % 0x1000;
         self.window.replace(address, &bytes_of(&[*words]));
         let written = self.unit.write(GITS_CWRITER, 8, self.writer);
-        if written.told == 0 {
-            return Ok(written.actions);
+        match written.told {
+            0 => return Ok(written.actions),
+            9 => self.take_back(&Fields::of(words)),
+            _ => {
+                // A SYNC in its place, so that the ring goes on.
+                self.window.replace(address, &bytes_of(&[sync(0)]));
+                self.unit.write(GITS_CTLR, 4, 1);
+            }
         }
-        // A SYNC in its place, so that the ring goes on.
-        self.window.replace(address, &bytes_of(&[sync(0)]));
-        self.unit.write(GITS_CTLR, 4, 1);
         Err((written.told, written.opcode))
+    }
+
+    /// Behind a 9: the Rust has no bound and stored what finds no room. Nothing was
+    /// mapped under that device, collection or pair, so the command that drops it
+    /// leaves all as it was.
+    fn take_back(&mut self, fields: &Fields) {
+        let drops = match fields.opcode {
+            MAPD => unmapd(fields.device),
+            MAPC => unmapc(fields.collection),
+            _ => discard(fields.device, fields.event),
+        };
+        let dropped = self.carry_out(&drops);
+        dropped.expect("the Rust drops what it stored");
     }
 }

@@ -2,9 +2,9 @@
 
 use super::commands;
 use super::numbers::{bytes, number};
-use super::registers::offset_of;
+use super::registers::{CWRITER, offset_of};
 use crate::fields::bytes_of;
-use crate::record::{BASE, Configuration, LONGEST_WINDOW, Record, STRICT};
+use crate::record::{BASE, Configuration, LONGEST_WINDOW, RETRY, Record, STRICT};
 
 /// The line, from 1, that is at fault, and why.
 #[derive(Debug, Eq, PartialEq)]
@@ -113,6 +113,11 @@ fn record(name: &str, rest: &[&str]) -> Result<Option<Record>, String> {
             width: number(width)?,
         },
         ("rd", _) => return Err("rd takes a register and a width".into()),
+        ("wr", [offset, "retry", width, value]) => Record::Wr {
+            offset: offset_with_retry(offset)?,
+            width: number(width)?,
+            value: with_retry(value)?,
+        },
         ("wr", [offset, width, value]) => Record::Wr {
             offset: offset_of(offset)?,
             width: number(width)?,
@@ -126,6 +131,22 @@ fn record(name: &str, rest: &[&str]) -> Result<Option<Record>, String> {
         ("tr", _) => return Err("tr takes a device and an event".into()),
         _ => return Ok(None),
     }))
+}
+
+/// Only CWRITER has Retry, and only in its low half.
+fn offset_with_retry(word: &str) -> Result<u64, String> {
+    match offset_of(word)? {
+        CWRITER => Ok(CWRITER),
+        _ => Err(format!("`{word}` has no retry, cwriter has")),
+    }
+}
+
+fn with_retry(word: &str) -> Result<u64, String> {
+    let value: u64 = number(word)?;
+    if value & RETRY != 0 {
+        return Err(format!("{word} has bit 0, which is retry's own"));
+    }
+    Ok(value | RETRY)
 }
 
 fn configuration(words: &[&str]) -> Result<Configuration, String> {

@@ -2,9 +2,9 @@
 
 use super::commands;
 use super::numbers::hexadecimal;
-use super::registers::show_offset;
+use super::registers::{CWRITER, show_offset};
 use crate::fields::{BYTES_OF_A_COMMAND, words_of};
-use crate::record::{BASE, Record, Records, STRICT};
+use crate::record::{BASE, RETRY, Record, Records, STRICT};
 
 /// The text of any bytes; assembling it gives the same bytes.
 pub fn list(trace: &[u8]) -> String {
@@ -48,6 +48,11 @@ pub fn show(record: &Record) -> String {
         }
         Record::Gm { address, bytes } => format!("gm {address:#x}\n{}", show_window(bytes)),
         Record::Rd { offset, width } => format!("rd {} {width}\n", show_offset(*offset)),
+        Record::Wr {
+            offset: CWRITER,
+            width: width @ (4 | 8),
+            value,
+        } if value & RETRY != 0 => format!("wr cwriter retry {width} {:#x}\n", value & !RETRY),
         Record::Wr {
             offset,
             width,

@@ -17,12 +17,14 @@ const fn register(name: &'static str, offset: u64, bytes: u64) -> Register {
     }
 }
 
+pub const CWRITER: u64 = 0x88;
+
 pub const REGISTERS: [Register; 14] = [
     register("ctlr", 0x0, 4),
     register("iidr", 0x4, 4),
     register("typer", 0x8, 8),
     register("cbaser", 0x80, 8),
-    register("cwriter", 0x88, 8),
+    register("cwriter", CWRITER, 8),
     register("creadr", 0x90, 8),
     register("baser0", 0x100, 8),
     register("baser1", 0x108, 8),

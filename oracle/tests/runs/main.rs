@@ -13,6 +13,7 @@ mod linux;
 mod reason;
 mod recorded;
 mod room;
+mod stalled;
 mod strict;
 mod tables;
 mod text;

@@ -71,6 +71,18 @@ fn the_list_has_actions_before_every_refusal_of_a_command() {
     assert_eq!(before.count(), 0, "{missing:?}");
 }
 
+/// What a base unit does with Retry is in the list in every way.
+#[test]
+fn the_list_has_retry_in_base() {
+    let mut coverage = Coverage::default();
+    for (_, trace) in list(Path::new(TEXTS)).expect("well-formed texts") {
+        coverage.trace(&trace);
+    }
+    let missing = coverage.missing();
+    let retry = missing.iter().filter(|name| name.contains("Retry"));
+    assert_eq!(retry.count(), 0, "{missing:?}");
+}
+
 /// Both fit the buffers of the program itstrace.
 #[test]
 fn generated_traces_and_their_answers_fit_the_program() {

@@ -7,9 +7,9 @@ use oracle::answers::answers;
 use oracle::digests::{seeds, strict_seeds};
 use oracle::exhaustive::{self, Named};
 use oracle::lines::{count, first};
-use oracle::record::{BASE, Record, Records, STRICT};
+use oracle::record::{BASE, RETRY, Record, Records, STRICT};
 use oracle::recorded::{by_hand, list};
-use oracle::strict::{Met, lines};
+use oracle::strict::{Met, RULES, Rule, lines};
 use oracle::text::assemble;
 
 const TEXTS: &str = concat!(env!("CARGO_MANIFEST_DIR"), "/traces");
@@ -31,12 +31,26 @@ fn in_base(trace: &[u8]) -> Vec<u8> {
 }
 
 fn with_units_of(profile: u8, trace: &[u8]) -> Vec<u8> {
+    changed(trace, |record| {
+        if let Record::Cf(configuration) = record {
+            configuration.profile = profile;
+        }
+    })
+}
+
+/// The same records without Retry.
+fn without_retry(trace: &[u8]) -> Vec<u8> {
+    changed(trace, |record| match record {
+        Record::Wr { offset, value, .. } if *offset == 0x88 => *value &= !RETRY,
+        _ => {}
+    })
+}
+
+fn changed(trace: &[u8], change: impl Fn(&mut Record)) -> Vec<u8> {
     let mut other = Vec::new();
     for record in Records::of(trace) {
         let mut record = record.expect("a whole record");
-        if let Record::Cf(configuration) = &mut record {
-            configuration.profile = profile;
-        }
+        change(&mut record);
         record.encode(&mut other);
     }
     other
@@ -55,16 +69,18 @@ fn others_in_strict(trace: &[u8]) -> Vec<(String, String)> {
         .collect()
 }
 
-/// Without the three rules of the strict profile, what answers for strict units is
-/// the Rust: it says the same as one unit that does it all.
+/// Without the rules of the strict profile, what answers for strict units is the Rust:
+/// it says the same as one unit that does it all. (That one ends at a 9.)
 #[test]
 fn base_units_are_answered_as_by_one_unit() {
     for (name, trace) in seeds(4_000).chain(exhaustive::traces()) {
         let whole = answers(&trace);
         if !whole.ended_at_strict {
-            let parts = lines(&trace);
-            assert!(parts.lines == whole.told, "{name}");
-            assert_eq!(parts.ended_at_nine, whole.ended_at_nine, "{name}");
+            let mut parts = &lines(&trace).lines[..];
+            if whole.ended_at_nine {
+                parts = first(count(&whole.told), parts);
+            }
+            assert!(parts == whole.told, "{name}");
         }
     }
 }
@@ -106,7 +122,8 @@ fn where_nothing_strict_happens_the_lines_are_the_rusts() {
     }
 }
 
-/// The steps of each story are those of the base trace whose name it has.
+/// The steps of each story are those of the base trace whose name it has, but for
+/// Retry, which a base unit does not take.
 #[test]
 fn the_strict_stories_have_the_steps_of_the_base_ones() {
     for name in [
@@ -116,14 +133,16 @@ fn the_strict_stories_have_the_steps_of_the_base_ones() {
     ] {
         let text = std::fs::read_to_string(format!("{TEXTS}/{name}.txt")).expect("a text");
         let (strict, _) = named(&format!("{name}-strict"));
-        assert!(assemble(&text) == Ok(in_base(&strict)), "{name}");
+        let steps = without_retry(&in_base(&strict));
+        assert!(assemble(&text) == Ok(steps), "{name}");
     }
 }
 
-/// docs/DIFFERENCES.md has these lines in its entry S16, and says that no other of
-/// its traces gets other lines from a strict unit.
+/// docs/DIFFERENCES.md says that no other of its traces gets other lines from a strict
+/// unit. In those of R01, R02, R17 and R27 it is for one of the three rules, in the
+/// others for Retry (R14) or because the unit has stalled.
 #[test]
-fn four_differences_have_other_lines_in_strict() {
+fn these_differences_have_other_lines_in_strict() {
     let mut traces = list(Path::new(TEXTS)).expect("well-formed texts");
     traces.retain(|(name, _)| name.starts_with("difference-"));
     assert!(traces.len() > 50, "{}", traces.len());
@@ -138,10 +157,32 @@ fn four_differences_have_other_lines_in_strict() {
         [
             "difference-R01-mapd-again: TR 0 8200 1, TR 8 0 0",
             "difference-R02-smaller-capacity: TR 0 8200 1, TR 8 0 0",
+            "difference-R13-no-stalled: RD 0 32, RD 0 33",
+            "difference-R14-no-retry: WR 7 0 33 0 0, WR 6 0 0 0 0",
+            "difference-R14-no-retry: RD 0 0, RD 0 32",
+            "difference-R15-any-write-tries-again: WR 8 3 0 0 0, WR 0 0 0 0 0",
+            "difference-R15-any-write-tries-again: WR 0 0 0 1 0, WR 0 0 0 0 0",
+            "difference-R15-any-write-tries-again: RD 0 32, RD 0 1",
             "difference-R17-device-number: WR 0 0 0 3 0, WR 27 8 0 0 0",
             "difference-R17-device-number: TR 0 8200 1, TR 8 0 0",
             "difference-R27-cbaser-valid: WR 0 0 0 1 0, WR 0 0 0 0 0",
             "difference-R27-cbaser-valid: RD 0 32, RD 0 0",
+            "difference-R36-movall: RD 0 0, RD 0 1",
+            "difference-R38-sync: RD 0 192, RD 0 193",
+            "difference-R48-pair-before-collection: RD 0 32, RD 0 33",
+            "difference-S06-numbers-for-texts: WR 21 10 0 0 0, WR 0 0 0 0 0",
+            "difference-S06-numbers-for-texts: WR 8 3 0 0 0, WR 0 0 0 0 0",
+            "difference-S14-reasons: WR 21 10 64 0 0, WR 0 0 0 0 0",
+            "difference-S14-reasons: WR 22 10 64 0 0, WR 0 0 0 0 0",
+            "difference-S14-reasons: WR 23 10 64 0 0, WR 0 0 0 0 0",
+            "difference-S14-reasons: WR 24 10 64 0 0, WR 0 0 0 0 0",
+            "difference-S14-reasons: WR 25 15 64 0 0, WR 0 0 0 0 0",
+            "difference-S14-reasons: WR 26 9 64 0 0, WR 0 0 0 0 0",
+            "difference-S14-reasons: WR 24 1 64 0 0, WR 0 0 0 0 0",
+            "difference-S15-stop-before-refused: RD 0 128, RD 0 129",
+            "difference-S15-stop-before-refused: WR 20 14 128 0 0, WR 0 0 0 0 0",
+            "difference-S15-stop-before-refused: WR 0 0 0 1 0, WR 0 0 0 0 0",
+            "difference-S15-stop-before-refused: RD 0 160, RD 0 129",
         ]
     );
 }
@@ -162,11 +203,47 @@ fn real_guests_have_the_same_lines_in_strict() {
         }
     }
     assert_eq!(guests, 4, "io61, hotplug612, suspend61, kexec61");
-    assert_eq!(met.mapped_again, 2, "by the second kernel of kexec61");
+    let again = met.of(Rule::MappedAgain);
+    assert_eq!(again, 2, "by the second kernel of kexec61");
 }
 
-/// The guests of strict units know their rules: most of what they post is carried
-/// out, and every rule is met often.
+/// How often the guests of 1,600 seeds meet each rule at the least.
+const AT_LEAST: [(Rule, u64); RULES.len()] = [
+    (Rule::MappedAgain, 1_000),
+    (Rule::TooLarge, 300),
+    (Rule::Held, 500),
+    (Rule::HeldBeyondBudget, 100),
+    (Rule::StalledBy6, 1_000),
+    (Rule::StalledBy8, 200),
+    (Rule::StalledBy9, 20),
+    (Rule::StalledByCheck, 2_000),
+    (Rule::FiveWithoutStall, 500),
+    (Rule::ReadWhole, 500),
+    (Rule::ReadLow, 500),
+    (Rule::ReadHigh, 300),
+    (Rule::KeptByControl, 500),
+    (Rule::KeptByWriter, 500),
+    (Rule::KeptByHighHalf, 200),
+    (Rule::KeptByRefusedRetry, 300),
+    (Rule::KeptByIgnoredBase, 50),
+    (Rule::KeptByRefusedBase, 50),
+    (Rule::NoFive, 50),
+    (Rule::RetryGoesOn, 1_000),
+    (Rule::RetryStopsAgain, 500),
+    (Rule::RetryGivesFive, 50),
+    (Rule::RetryOfNothing, 20),
+    (Rule::RetryWhileDisabled, 300),
+    (Rule::RetryByLowHalf, 500),
+    (Rule::ClearedByBase, 300),
+    (Rule::ConfiguredAnew, 20),
+    (Rule::RetryUnstalled, 1_000),
+    (Rule::RetryHeld, 100),
+    (Rule::RetryBeforeRing, 50),
+    (Rule::RetryRefusedBeforeRing, 100),
+];
+
+/// The guests of strict units know their rules: what they post is carried out about as
+/// often as in base, though a refused command stalls, and every rule is met often.
 #[test]
 fn strict_guests_meet_every_rule() {
     let mut met = Met::default();
@@ -179,9 +256,11 @@ fn strict_guests_meet_every_rule() {
     for (_, trace) in seeds(1_600) {
         commands[1] += done(&answers(&trace).told);
     }
-    assert!(met.mapped_again > 1_000 && met.too_large > 300, "{met:?}");
-    assert!(met.held > 500 && met.held_beyond_budget > 100, "{met:?}");
-    assert!(2 * commands[0] > commands[1], "{commands:?}");
+    for (place, ((rule, least), (listed, name))) in AT_LEAST.into_iter().zip(RULES).enumerate() {
+        assert_eq!((rule, rule as usize), (listed, place));
+        assert!(met.of(rule) >= least, "{name}: {}", met.of(rule));
+    }
+    assert!(10 * commands[0] > 9 * commands[1], "{commands:?}");
 }
 
 /// The commands that the writes of these lines carried out.

@@ -74,6 +74,42 @@ fn a_profile_goes_by_its_name_and_base_may_be_left_out() {
     }
 }
 
+/// Bit 0 of CWRITER is Retry, at the two widths at which it can be written.
+#[test]
+fn cwriter_with_retry_has_a_form_of_its_own() {
+    for (one, other, listed) in [
+        (
+            "wr cwriter retry 8 64",
+            "wr 0x88 8 65",
+            "wr cwriter retry 8 0x40\n",
+        ),
+        (
+            "wr cwriter retry 4 0",
+            "wr cwriter 4 1",
+            "wr cwriter retry 4 0x0\n",
+        ),
+        (
+            "wr 0x88 retry 8 0xfffffffffffffffe",
+            "wr cwriter 8 0xffffffffffffffff",
+            "wr cwriter retry 8 0xfffffffffffffffe\n",
+        ),
+        (
+            "wr cwriter retry 2 64",
+            "wr cwriter 2 65",
+            "wr cwriter 2 0x41\n",
+        ),
+    ] {
+        let trace = assemble(one).expect("a well-formed text");
+        assert_eq!(assemble(other).as_ref(), Ok(&trace));
+        assert_eq!(list(&trace), listed);
+        assert_eq!(assemble(listed), Ok(trace));
+    }
+    for plain in ["wr cwriter 8 0x40\n", "wr cwriter+4 4 0x1\n"] {
+        let trace = assemble(plain).expect("a well-formed text");
+        assert_eq!(list(&trace), plain);
+    }
+}
+
 #[test]
 fn what_no_named_form_says_is_listed_as_words() {
     for words in [
@@ -122,6 +158,22 @@ fn faults_name_line_and_reason() {
         ("rd ctlr", 1, "rd takes a register and a width"),
         ("rd ctlr 256", 1, "256 is too large here"),
         ("tr 5 4294967296", 1, "4294967296 is too large here"),
+        ("wr ctlr retry 4 0", 1, "`ctlr` has no retry, cwriter has"),
+        (
+            "wr cwriter+4 retry 4 0",
+            1,
+            "`cwriter+4` has no retry, cwriter has",
+        ),
+        (
+            "wr cwriter retry 8 33",
+            1,
+            "33 has bit 0, which is retry's own",
+        ),
+        (
+            "wr cwriter retry",
+            1,
+            "wr takes a register, a width and a value",
+        ),
         ("wr ctlr 4 1x", 1, "`1x` is not a number of at most 64 bits"),
         (
             "# fine\nint device=5 event=9",

@@ -147,8 +147,8 @@ impl<'a> Filler<'a> {
         self.guest.post_and_settle(&commands);
     }
 
-    /// One record more than the table has: the oracle's run ends here. Every
-    /// other new pair has an INT of the last one before it.
+    /// One record more than the table has: the oracle's run ends here, but for a
+    /// strict unit. Every other new pair has an INT of the last one before it.
     fn overfill(&mut self) {
         let mut commands = vec![self.replacement()];
         if self.table == Table::Translations && self.next % 2 == 1 {
@@ -156,6 +156,10 @@ impl<'a> Filler<'a> {
             commands.push(int(device, event));
         }
         commands.push(self.one_more());
-        self.guest.post(&commands);
+        let stop = self.guest.post(&commands);
+        if self.guest.strict() {
+            self.guest.settle(stop);
+            self.guest.look();
+        }
     }
 }
