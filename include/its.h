@@ -48,7 +48,7 @@ uint64_t its_trace(const uint8_t *trace, size_t trace_length, uint8_t *output, s
  */
 #define ITS_WORDS 608
 #define ITS_TOLD 5
-#define ITS_LAYOUT 1
+#define ITS_LAYOUT 2
 
 typedef struct {
     uint64_t words[ITS_WORDS];
@@ -62,7 +62,7 @@ typedef struct {
  * Why a call is refused. Of its_write 20 to 27, 6, 8 and 9 are of a command in the queue: CREADR stands on it, told has its opcode (0 with 6) and
  * CREADR as offset, it changed nothing, and the commands before it were carried out, as many as done says, and their actions handed over. With
  * every other refusal done and actions are 0. 5 leaves what was written stored and runs nothing; its offset is CREADR. The rest change nothing, but
- * for a refused its_configure; the offset of 7 is the refused one.
+ * for a refused its_configure; the offset of 7 is the refused one. In strict a refused command stalls the unit (see ITS_STRICT), and no other refusal does.
  */
 enum its_refusal {
     ITS_UNSOUND = 1, /* The settings are not allowed; or the unit is not configured, or its numbers are of another layout or of no unit. */
@@ -94,9 +94,15 @@ enum its_refusal {
 
 /*
  * The profiles. Base answers as the published program, arm_vgic 0.6.2, but for what docs/DIFFERENCES.md lists as S01 and on. Strict differs
- * from it in three things: a valid MAPD of a mapped device first drops the device's pairs; a command that names a device above 65535 is refused with
- * 27; and while bit 63 of CBASER is 0 the queue does not run, and no write is refused with 5.
+ * from it in this: a valid MAPD of a mapped device first drops the device's pairs; a command that names a device above 65535 is refused with 27; while
+ * bit 63 of CBASER is 0 the queue does not run, and no write is refused with 5; and a refused command stalls the unit.
+ *
+ * A stalled unit runs nothing, and no write is refused with 5. Reads of CREADR have ITS_STALLED set, at 8 bytes and in the low half; the offsets that
+ * its_write tells do not. A CWRITER write that is accepted and has ITS_RETRY set goes on with the command on which CREADR stands; one of CBASER that is
+ * stored starts anew. Nothing else ends it. In base a CWRITER with ITS_RETRY is refused with 7.
  */
+#define ITS_RETRY 1 /* Bit 0 of CWRITER, strict only. It is taken off before the offset is looked at, and is not stored. */
+#define ITS_STALLED 1 /* Bit 0 of CREADR, strict only. */
 #define ITS_BASE 0
 #define ITS_STRICT 1
 
@@ -114,7 +120,8 @@ uint64_t its_configure(its_unit *unit, const uint32_t *settings, size_t setting_
 uint64_t its_read(const its_unit *unit, uint64_t offset, uint8_t width, its_told *told);
 
 /*
- * Writes a register of the frame; an enabled unit then runs the commands that wait in its queue (a strict one only while bit 63 of CBASER is 1).
+ * Writes a register of the frame; an enabled unit then runs the commands that wait in its queue (a strict one only while bit 63 of CBASER is 1 and it is
+ * not stalled).
  *
  * The window is guest memory: window_length bytes, the first of them at the guest address window_address; the queue is read from it. The row
  * gets the actions of the INT and CLEAR that this call carried out, one number each, the first first; its numbers behind them stay as they were.

@@ -132,12 +132,32 @@ static void mapped_again(uint32_t profile, uint64_t late) {
     check("the second seat's message", message(SEAT + 1) == 0 && is(0, LPI + SEAT + 1, PROCESSOR, 0, 0));
 }
 
-/* The other two things in which a strict unit differs. It is the unit that mapped_again left. */
+static int creadr(uint8_t width, uint64_t value) { return its_read(&unit, CREADR, width, &told) == 0 && is(0, value, 0, 0, 0); }
+
+/* A refused command stalls a strict unit: its driver sees it, mends the command in memory, and writes CWRITER with Retry. */
+static void stalled(void) {
+    check("CREADR shows Stalled", creadr(8, 224 | ITS_STALLED) && creadr(4, 224 | ITS_STALLED));
+    check("CTLR tries nothing", write(CTLR, 4, 1) == 0 && is(0, 0, 0, 0, 0));
+    check("CWRITER without Retry tries nothing", write(CWRITER, 8, used) == 0 && is(0, 0, 0, 0, 0));
+    check("more than the budget wait, and no 5", write(CWRITER, 8, 4064) == 0 && is(0, 0, 0, 0, 0));
+    check("Retry with an offset that is refused", write(CWRITER, 8, 4096 | ITS_RETRY) == ITS_WRITER_REFUSED && is(7, 0, 4096, 0, 0));
+    check("still stalled", creadr(8, 224 | ITS_STALLED));
+    check("tried again with Retry: refused with 27", write(CWRITER, 8, used | ITS_RETRY) == ITS_DEVICE_TOO_LARGE && is(27, 0x08, 224, 0, 0));
+    used = 224;
+    put(0x05, 0, PROCESSOR << 16);
+    check("SYNC in its place, and Retry", write(CWRITER, 8, used | ITS_RETRY) == 0 && is(0, 0, 0, 1, 0));
+    check("CREADR without Stalled", creadr(8, 256));
+    put(0x0e, 0, 0);
+    check("MOVALL: refused with 20", write(CWRITER, 8, used) == ITS_OPCODE_UNKNOWN && creadr(8, 256 | ITS_STALLED));
+}
+
+/* The other things in which a strict unit differs. It is the unit that mapped_again left. */
 static void strict(void) {
     put(0x08 | (uint64_t)65535 << 32, 3, VALID);
     check("MAPD of device 65535", write(CWRITER, 8, used) == 0 && is(0, 0, 0, 1, 0));
     put(0x08 | (uint64_t)65536 << 32, 3, VALID);
     check("MAPD of device 65536: refused with 27", write(CWRITER, 8, used) == ITS_DEVICE_TOO_LARGE && is(27, 0x08, 224, 0, 0));
+    stalled();
     used = 0;
     put(0x05, 0, PROCESSOR << 16);
     check("off, and the queue's base without bit 63", write(CTLR, 4, 0) == 0 && write(CBASER, 8, QUEUE) == 0 && write(CTLR, 4, 1) == 0);

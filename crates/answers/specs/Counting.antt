@@ -77,7 +77,7 @@ isHalted Ended = false
 isHalted Over = false
 isHalted (Halted r opcode) = true
 
--- the unit that such a run leaves: a refused command stalls it
+-- the unit that such a run leaves: a refused command stalls it, in strict
 abbrev pub unitLeft : Stopped → ItsState → ItsState
 unitLeft s u = if isHalted s then stall u else u
 

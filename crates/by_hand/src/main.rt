@@ -7,6 +7,7 @@ mod units;
 fn main() {
     units::configurations();
     units::rings();
+    units::stalled();
     units::tables();
     units::row();
     twice::commands();

@@ -116,6 +116,69 @@ pub fn rings() {
     unsound_ring(b"writer 4096 of one page", ring(0x1000, 0, 4096));
 }
 
+// Stalled, set by hand: base does not look at it, and in strict Retry clears it where no queue can run. The window holds no command, so that a queue which
+// runs is refused with 6.
+fn set_stalled(profile: u32, cbaser: u64) -> ItsState {
+    let mut unit = ring(cbaser, 0, 0);
+    unit.config.profile = profile;
+    unit.registers.stalled = true;
+    unit.registers.enabled = true;
+    unit
+}
+
+pub fn stalled() {
+    let page = [5u8; 4096];
+    heading(b"base, stalled");
+    let base = set_stalled(0, 0x8000_0000_5000_0000);
+    reads(b"  CREADR", base, CREADR, 8, rd(0, 0));
+    let ran = writes(b"  CWRITER", base, &page, CWRITER, 32, wr(6, 0, 0, 0, 0));
+    reads(b"  CREADR", ran, CREADR, 8, rd(0, 0));
+    writes(
+        b"  CWRITER with bit 0",
+        base,
+        &page,
+        CWRITER,
+        33,
+        wr(7, 0, 33, 0, 0),
+    );
+    heading(b"strict, stalled");
+    let strict = set_stalled(1, 0x8000_0000_5000_0000);
+    reads(b"  CREADR", strict, CREADR, 8, rd(0, 1));
+    let waits = writes(b"  CWRITER", strict, &page, CWRITER, 32, wr(0, 0, 0, 0, 0));
+    let again = writes(
+        b"  CWRITER with Retry",
+        waits,
+        &page,
+        CWRITER,
+        33,
+        wr(6, 0, 0, 0, 0),
+    );
+    reads(b"  CREADR", again, CREADR, 8, rd(0, 1));
+    heading(b"strict, stalled, bit 63 of CBASER clear");
+    let held = set_stalled(1, 0x5000_0000);
+    let let_go = writes(
+        b"  CWRITER with Retry",
+        held,
+        &page,
+        CWRITER,
+        33,
+        wr(0, 0, 0, 0, 0),
+    );
+    reads(b"  CREADR", let_go, CREADR, 8, rd(0, 0));
+    heading(b"strict, stalled, CBASER zero");
+    let none = set_stalled(1, 0);
+    reads(b"  CREADR", none, CREADR, 8, rd(0, 1));
+    let cleared = writes(
+        b"  CWRITER with Retry",
+        none,
+        &page,
+        CWRITER,
+        1,
+        wr(0, 0, 0, 0, 0),
+    );
+    reads(b"  CREADR", cleared, CREADR, 8, rd(0, 0));
+}
+
 fn pair(lpi: u32, collection: u16) -> Translation {
     Translation {
         device: ItsDeviceId(5),

@@ -1,5 +1,6 @@
 -- ALL THAT IS GUARANTEED holds.
 -- Assumes nothing.
+use Rattle.model.proofs.Registers.{same-sound}
 use Rattle.model.proofs.Numbers.{numbered, one-reason, not-zero, folds, folded-only}
 use Rattle.guarantees.specs.Theorems.{Theorems}
 use Rattle.guarantees.proofs.InForce.{mappings-in-force, actions-given}
@@ -16,10 +17,10 @@ use Rattle.guarantees.proofs.Leaves.{read-leaves, translate-leaves}
 use Rattle.guarantees.proofs.Unsound.{unsound-answers-1, sound-never-1, no-unit-answers-1, refused-configuration}
 use Rattle.guarantees.proofs.Again.{tries-again}
 use Rattle.guarantees.proofs.Later.{tried-later}
-use Rattle.guarantees.proofs.Stalled.{stalled-stores, stalled-kept, stalled-exactly, calls-stalled-exactly, stalled-shown}
-use Rattle.guarantees.proofs.Profiles.{base-as-01, base-led, base-configured, base-call-configured, profiles-alike, verdicts-alike, calls-begin, calls-go-on}
+use Rattle.guarantees.proofs.Stalled.{stalled-stores, stalled-kept, stalled-exactly, calls-stalled-exactly, stalled-shown, stalled-unread}
+use Rattle.guarantees.proofs.Profiles.{base-as-01, strict-as-01, base-led, base-configured, base-call-configured, profiles-alike, verdicts-alike, calls-begin, calls-go-on}
 use Rattle.guarantees.proofs.Traces.{base-traces, traces-alike}
-use Rattle.guarantees.proofs.Holding.{held-stores, no-such-profile, call-no-such-profile, call-no-such-setting, another-layout, layout-before}
+use Rattle.guarantees.proofs.Holding.{held-stores, no-such-profile, call-no-such-profile, call-no-such-setting, another-layout, layout-before, layout-1}
 use Rattle.guarantees.proofs.ExampleAlike.{example-strict}
 
 pub theorems : Theorems
@@ -41,6 +42,9 @@ theorems =
       stalled-exactly = stalled-exactly;
       calls-stalled-exactly = calls-stalled-exactly;
       stalled-shown = stalled-shown;
+      stalled-unread = stalled-unread;
+      sound-stalled = same-sound;
+      strict-as-01 = strict-as-01;
       no-such-profile = no-such-profile;
       call-no-such-profile = call-no-such-profile;
       call-no-such-setting = call-no-such-setting;
@@ -52,6 +56,7 @@ theorems =
       example-strict = example-strict;
       another-layout = another-layout;
       layout-before = layout-before;
+      layout-1 = layout-1;
       actions-given = actions-given;
       call-actions-given = call-actions-given;
       actions-firm = actions-firm;

@@ -10,8 +10,9 @@ use Rattle.model.specs.declared.ItsDeviceId.{ItsDeviceId}
 use Rattle.model.specs.declared.ItsState.{ItsState}
 use Rattle.model.specs.declared.Command.{Command}
 use Rattle.model.specs.declared.Command.the-variants.{Mapd, Int}
+use Rattle.model.specs.declared.Refusal.the-variants.{OpcodeUnknown}
 use Rattle.model.specs.declared.Verdict.the-variants.{Accepted}
-use Rattle.model.specs.declared.WriteAnswer.the-variants.{Taken}
+use Rattle.model.specs.declared.WriteAnswer.the-variants.{Taken, NotTaken}
 use Rattle.model.specs.Arm.{GITS-CTLR, GITS-CBASER, GITS-CWRITER}
 use Rattle.model.specs.With.{withRegisters}
 use Rattle.model.specs.Queue.{run}
@@ -26,7 +27,7 @@ use Rattle.its.specs.Contracts.{Writes}
 use Rattle.guarantees.specs.MappingsInForce.{Led, begins, a-write}
 use Rattle.guarantees.specs.Profiles.{LedAlike, both-begin, both-write}
 use Rattle.guarantees.specs.ExampleCalls.{window, row}
-use Rattle.guarantees.specs.ExampleStrict.{againWindow, ExampleStrict}
+use Rattle.guarantees.specs.ExampleStrict.{againWindow, stopWindow, syncWindow, ExampleStrict}
 
 -- the units of a profile: configured, and after each of the writes
 module _ (profile : ℕ) where
@@ -132,6 +133,20 @@ mapped-again : Writes againWindow row (done 1) GITS-CWRITER 8 160 (record { unit
 unfolding shown
 mapped-again = record { answer = refl; row-left = refl; numbers = refl }
 
+-- the opcode 0E, and Retry
+abbrev halted : ItsState
+halted = write stopWindow row last GITS-CWRITER 8 192 .written .unit
+
+abbrev gone-on : ItsState
+gone-on = write syncWindow row halted GITS-CWRITER 8 193 .written .unit
+
+halts : Writes stopWindow row last GITS-CWRITER 8 192 (record { unit = halted; answer = NotTaken OpcodeUnknown 14 160 0 0 }) row
+unfolding shown
+halts = record { answer = refl; row-left = refl; numbers = refl }
+
+led-halted : Led (configured 65535 1) halted (mapd 4 ∷ exampleMet)
+led-halted = a-write strictly stopWindow row GITS-CWRITER 8 192 (record { unit = halted; answer = NotTaken OpcodeUnknown 14 160 0 0 }) row halts
+
 pub example-strict : ExampleStrict
 unfolding shown
 example-strict =
@@ -145,4 +160,11 @@ example-strict =
       wr-again = mapped-again;
       led = strictly;
       tr-late = record { answer = refl; numbers = refl };
+      stopped = halted;
+      wr-stopped = halts;
+      led-stopped = led-halted;
+      is-stalled = refl;
+      went-on = gone-on;
+      wr-retry = record { answer = refl; row-left = refl; numbers = refl };
+      is-clear = refl;
     }

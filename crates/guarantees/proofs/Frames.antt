@@ -14,19 +14,24 @@ use Rattle.model.specs.declared.ItsRegisters.{ItsRegisters}
 use Rattle.model.specs.declared.ItsState.{ItsState}
 use Rattle.model.specs.declared.ItsAction.{ItsAction}
 use Rattle.model.specs.declared.Register.the-variants.{Ctlr, Cwriter, Creadr}
-use Rattle.model.specs.declared.Verdict.the-variants.{Accepted}
+use Rattle.model.specs.declared.RegisterWrite.{RegisterWrite}
+use Rattle.model.specs.declared.Refusal.the-variants.{WriterRefused}
+use Rattle.model.specs.declared.Verdict.{Verdict}
+use Rattle.model.specs.declared.Verdict.the-variants.{Accepted, Refused}
+use Rattle.model.specs.Choose.{_or_then_}
 use Rattle.model.specs.Arm.{_of_, CWRITER·Retry, GITS-CTLR, GITS-CWRITER, GITS-CREADR, LPI-base}
-use Rattle.model.specs.With.{withEnabled, withStalled}
+use Rattle.model.specs.With.{withEnabled, withStalled, withWriter}
 use Rattle.model.specs.Profile.{isStrict}
 use Rattle.model.specs.Config.{processorsOf, noneTwice, sizesIn01, soundConfig, soundRing, soundUnit}
-use Rattle.model.specs.Register.{registerAt, merged}
-use Rattle.model.specs.Access.{checkAccess, checkWrite}
-use Rattle.model.specs.Writing.{going, enables, toCtlr, retries, offered, writerAccepted, writerOf, toCwriter, registerWrite}
+use Rattle.model.specs.Register.{registerAt, merged, valueWritten}
+use Rattle.model.specs.Access.{checkAccess, checkWrite, ifAccepted}
+use Rattle.model.specs.Writing.{refusing, going, enables, toCtlr, clearing, retries, offered, writerAccepted, writerOf, toCwriter, registerWrite}
 use Rattle.model.specs.Entry.{stores}
-use Rattle.model.proofs.Cases.{cases, and-left, and-right}
+use Rattle.model.proofs.Cases.{cases, never, and-left, and-right}
 use Rattle.model.proofs.Profiles.{sizes-of}
 use Rattle.model.proofs.Ring.{idle, ring, offset-below}
-use Rattle.model.proofs.Retry.{writer-whole}
+use Rattle.model.proofs.Retry.{writer-whole, retry-of, checks-taken}
+use Rattle.model.proofs.Stalled.{isTaken}
 
 -- a frame has room for them
 fits : (n size : ℕ) → n ≤ 65536 → (eqb size 65536 || eqb size 131072) ≡ true → leb n size ≡ true
@@ -58,6 +63,10 @@ module _ (k : ItsConfig) (h : soundConfig k ≡ true) where
   creadr-taken width (inl e) = rw (e, frame-fits k h 152 (omega arith))
   creadr-taken width (inr e) = rw (e, frame-fits k h 148 (omega arith))
 
+  pub creadr-high-taken : checkAccess k (GITS-CREADR + 4) 4 ≡ Accepted
+  unfolding checkAccess registerAt
+  creadr-high-taken = rw (frame-fits k h 152 (omega arith))
+
 at-ctlr : registerAt GITS-CTLR ≡ Ctlr
 unfolding registerAt
 at-ctlr = refl
@@ -69,6 +78,10 @@ at-cwriter = refl
 pub at-creadr : registerAt GITS-CREADR ≡ Creadr
 unfolding registerAt
 at-creadr = refl
+
+pub at-creadr-high : registerAt (GITS-CREADR + 4) ≡ Creadr
+unfolding registerAt
+at-creadr-high = refl
 
 -- CWRITER as it is, with Retry, in a sound ring
 module _ (k : ItsConfig) (r : ItsRegisters) (strictly : isStrict (k .profile) ≡ true) (sound : soundRing r ≡ true) where
@@ -92,6 +105,45 @@ module _ (k : ItsConfig) (r : ItsRegisters) (strictly : isStrict (k .profile) �
   has-retry =
       let bit : CWRITER·Retry of (r .cwriter + 1) ≡ 1 = omega (arith, writer-whole r sound) in
       rw (strictly, bit)
+
+-- what an accepted CWRITER write with Retry stores, of a strict unit: the writer, and Stalled is clear
+module _ (u : ItsState) (row : List ItsAction) (width value : ℕ) (y : isStrict (u .config .profile) ≡ true) (bit : CWRITER·Retry of value ≡ 1) where
+  abbrev written : ℕ
+  written = valueWritten (u .config) (u .registers) GITS-CWRITER width value Cwriter
+
+  abbrev writer : ℕ
+  writer = writerOf (u .config) (u .registers) written
+
+  abbrev Goes : RegisterWrite → Type 0
+  Goes s = s ≡ going (withStalled (withWriter (u .registers) writer) false)
+
+  at-writer : stores row u GITS-CWRITER width value
+      ≡ ifAccepted (checkWrite (u .config) (u .registers) (length row) GITS-CWRITER width) (toCwriter (u .config) (u .registers) written) (refusing (u .registers) 0)
+  unfolding registerWrite
+  at-writer = rw at-cwriter
+
+  with-bit : CWRITER·Retry of written ≡ 1 → retries (u .config) written ≡ true
+  unfolding retries
+  with-bit e = rw (y, e)
+
+  by-writer : (a retry : Bool) → retry ≡ true → isTaken ((a or refusing (u .registers) writer WriterRefused then going (clearing retry (withWriter (u .registers) writer))) .answer) ≡ true →
+      Goes (a or refusing (u .registers) writer WriterRefused then going (clearing retry (withWriter (u .registers) writer)))
+  by-writer true retry e t = rw e
+  by-writer false retry e t = never true refl (sym t)
+
+  by-verdict : (d : Verdict) → checkWrite (u .config) (u .registers) (length row) GITS-CWRITER width ≡ d →
+      isTaken (ifAccepted d (toCwriter (u .config) (u .registers) written) (refusing (u .registers) 0) .answer) ≡ true →
+      Goes (ifAccepted d (toCwriter (u .config) (u .registers) written) (refusing (u .registers) 0))
+  unfolding toCwriter
+  by-verdict (Refused why) c t = never true refl (sym t)
+  by-verdict Accepted c t =
+      let k = checks-taken (u .config) (u .registers) (length row) GITS-CWRITER width c in
+      let bit-so = retry-of (u .config) GITS-CWRITER width (k .access) at-cwriter (u .registers) (and-right (soundConfig (u .config)) _ (k .is-sound)) value ∙ bit in
+      by-writer (writerAccepted (u .registers) writer) (retries (u .config) written) (with-bit bit-so) t
+
+  pub retry-goes : isTaken (stores row u GITS-CWRITER width value .answer) ≡ true → Goes (stores row u GITS-CWRITER width value)
+  retry-goes t =
+      at-writer ∙ by-verdict (checkWrite (u .config) (u .registers) (length row) GITS-CWRITER width) refl (ap (λ s. isTaken (s .answer)) (sym at-writer) ∙ t)
 
 -- what a write stores, of a sound unit with a row that has room
 module _ (u : ItsState) (row : List ItsAction) (sound : soundUnit u ≡ true) (room : u .config .«command_budget» ≤ length row) where

@@ -106,3 +106,6 @@ another-layout s n = unsound-answers-1 (unitIn s) (not-sound s (ne-eqb (word s L
 
 pub layout-before : (s : List ℕ) → 8192 ≤ word s LAYOUT → AnswersOne (unitIn s)
 layout-before s high = another-layout s (λ e. omega (arith, high, e))
+
+pub layout-1 : (s : List ℕ) → word s LAYOUT ≡ 1 → AnswersOne (unitIn s)
+layout-1 s one = another-layout s (λ e. omega (arith, one, e))

@@ -11,6 +11,7 @@ use Rattle.model.specs.declared.ItsAction.{ItsAction}
 use Rattle.model.specs.declared.Configured.{Configured}
 use Rattle.model.specs.declared.Command.{Command}
 use Rattle.model.specs.With.{withProfile}
+use Rattle.model.specs.Profile.{strict, profileOf}
 use Rattle.model.specs.Refusal.{verdictNumber}
 use Rattle.model.specs.Queue.{Window}
 use Rattle.model.specs.Entry.{configure}
@@ -18,12 +19,13 @@ use Rattle.model.specs.In01.{configureIn01}
 use Rattle.model.specs.Common.{inProfile, CommonWrite}
 use Rattle.model.specs.Trace.{Record, CF, GM, RD, WR, TR, lentRow, writeOf, linesOf}
 use Rattle.model.proofs.Cases.{cases}
-use Rattle.model.proofs.Profiles.{base-reads, base-translates, base-writes, base-configures}
+use Rattle.model.proofs.Profiles.{is-strict, base-reads, base-translates, base-writes, base-configures}
+use Rattle.model.proofs.Registers.{strict-stores, strict-runs, strict-reads, strict-translates}
 use Rattle.model.proofs.Alike.{same-reads, same-translates, same-writes, same-made, same-verdict, same-fresh, fresh-base}
 use Rattle.its.specs.Contracts.{Configures, Writes}
 use Rattle.host.specs.Calls.{Tells, numbersOfRead, numbersOfWrite, numbersOfTranslation, actionIn, rowWith, actionsMade, setting, noneFurther, configGiven, numbersOfVerdict, CallConfigures, CallWrites}
 use Rattle.guarantees.specs.MappingsInForce.{Led}
-use Rattle.guarantees.specs.Profiles.{standing, linesIn01, InBase, As01, LedAlike, both-begin, both-write, CommonRecord, AnswerAlike}
+use Rattle.guarantees.specs.Profiles.{standing, linesIn01, InBase, As01, StrictAs01, LedAlike, both-begin, both-write, CommonRecord, AnswerAlike}
 use Rattle.guarantees.proofs.Follows.{commands-follow}
 use Rattle.guarantees.proofs.InForce.{mappings-in-force}
 use Rattle.guarantees.proofs.AsWrites.{call-writes}
@@ -60,6 +62,17 @@ module _ (u : ItsState) (b : u .config .profile ≡ 0) where
             );
         records = lines-as-01;
       }
+
+-- A STRICT UNIT.
+pub strict-as-01 : (u : ItsState) → profileOf (u .config) ≡ strict → StrictAs01 u
+strict-as-01 u s =
+    let y = is-strict (u .config) s in
+    record {
+      stores-as = λ row offset width value. strict-stores u y offset width value row;
+      may-run = strict-runs u y;
+      reads = λ offset width r e out. e .answer ∙ strict-reads u y offset width out;
+      translates = λ d e r q. q .answer ∙ strict-translates u y d e;
+    }
 
 -- over whole runs: the configuration never changes
 pub base-led : {k : ItsConfig} {u : ItsState} {h : List Command} → k .profile ≡ 0 → Led k u h → As01 u

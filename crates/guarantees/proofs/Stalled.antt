@@ -1,6 +1,6 @@
 -- STALLED (02, A4): what a write makes of it, by the way that it goes; over runs of accesses and of calls; where nothing runs; and what CREADR shows.
 -- Assumes nothing.
-use Prim.Native.Nat.{ℕ, _+_, _^_, _<_}
+use Prim.Native.Nat.{ℕ, _+_, _/_, _%_, _^_, _<_}
 use native.Mathlib.Omega.{arith}
 use mathlib.Core.Path.{_≡_, refl, sym, ap, ap₂, subst, _∙_}
 use mathlib.Core.Bool.{Bool, true, false, _&&_, _||_, not}
@@ -27,15 +27,16 @@ use Rattle.model.specs.declared.Written.{Written}
 use Rattle.model.specs.Choose.{ifFound, isFound}
 use Rattle.model.specs.Arm.{_of_, CBASER·Valid, CWRITER·Retry, GITS-CWRITER, GITS-CREADR}
 use Rattle.model.specs.Refusal.{numberOf, writeNumbers}
-use Rattle.model.specs.With.{withRegisters}
+use Rattle.model.specs.With.{withRegisters, withStalled}
 use Rattle.model.specs.Profile.{Profile, base, strict, isStrict, profileOf}
 use Rattle.model.specs.Config.{soundConfig, soundRing, soundUnit}
 use Rattle.model.specs.Queue.{Window, waiting, Stop, Ran, run, stall, held}
-use Rattle.model.specs.Register.{oneIf, creadrValue, readPart}
+use Rattle.model.specs.Register.{oneIf, isStalled, creadrValue, readPart}
 use Rattle.model.specs.Access.{checkRead}
 use Rattle.model.specs.Entry.{Outcome, configure, stores, readFrom, read}
 use Rattle.model.proofs.Cases.{cases, never, and-left, and-right}
-use Rattle.model.proofs.Profiles.{or-on, is-strict, is-base, may-clear, creadr-plain}
+use Rattle.model.proofs.Profiles.{or-on, is-strict, is-base, may-clear, may-base, creadr-plain}
+use Rattle.model.proofs.Registers.{unread-stores, unread-reads, unread-translates}
 use Rattle.model.proofs.Retry.{reader-whole}
 use Rattle.model.proofs.Ring.{reader-below}
 use Rattle.model.proofs.Runs.{RunKeeps, run-keeps}
@@ -47,14 +48,15 @@ use Rattle.guarantees.specs.Refusals.{at-entry, at-cwriter, at-command, 
 use Rattle.guarantees.specs.Profiles.{OnlyStores}
 use Rattle.guarantees.specs.MappingsInForce.{Led, begins, a-read, a-translation, a-write}
 use Rattle.guarantees.specs.CallsInForce.{LedByCalls, its-configure, its-read, its-translate, its-write}
-use Rattle.guarantees.specs.Stalled.{ofCommand, stopped, afterwards, accepted, withRetry, storesBase, Mark, stops, clears as clears-it, leaves, markWith, markBy, markOf, marked, StalledKept, trail, StoppedSince, just-now, still, stoppedTold, acceptedTold, markTold, trailTold, StalledShown}
+use Rattle.guarantees.specs.Stalled.{ofCommand, stopped, afterwards, accepted, withRetry, storesBase, Mark, stops, clears as clears-it, leaves, markWith, markBy, markOf, marked, StalledKept, trail, StoppedSince, just-now, still, stoppedTold, acceptedTold, markTold, trailTold, StalledShown, Unread}
 use Rattle.guarantees.proofs.Reasons.{Only, Entries, write-only, staying}
 use Rattle.guarantees.proofs.Refused.{refusal-kept}
 use Rattle.guarantees.proofs.AsWrites.{call-writes}
 use Rattle.guarantees.proofs.InForce.{mappings-in-force}
 use Rattle.guarantees.proofs.ByCalls.{led-by-calls}
 use Rattle.guarantees.proofs.Holding.{held-by-way, base-quiet}
-use Rattle.guarantees.proofs.Frames.{creadr-taken, at-creadr}
+use Rattle.guarantees.proofs.Frames.{creadr-taken, creadr-high-taken, at-creadr, at-creadr-high}
+use Rattle.guarantees.proofs.SameTurn.{turn-same}
 
 -- 7 is the only refusal at CWRITER
 by-place : (why : Refusal) → givenAt why ≡ at-cwriter → WriterRefused ≡ why
@@ -113,7 +115,7 @@ module _ (w : Window) (row : List ItsAction) (u : ItsState) (offset width value 
     base-for n (some z) = rw (kept .config, n) stays
 
   -- accepted or not, as the answer says and as what is stored says
-  accepted-by : {s : RegisterWrite} {o : Outcome} → Way w row u offset width value s o → accepted (o .written .answer) ≡ isTaken (s .answer)
+  pub accepted-by : {s : RegisterWrite} {o : Outcome} → Way w row u offset width value s o → accepted (o .written .answer) ≡ isTaken (s .answer)
   accepted-by (checked why c) =
       let place : givenAt why ≡ at-entry = subst (Only Entries) c (write-only u (length row) offset width) in
       rw place
@@ -321,9 +323,33 @@ module _ (u : ItsState) (sound : soundUnit u ≡ true) where
   bit-small true = small
   bit-small false = omega (arith, small)
 
+  -- the high half of what is below 2^32
+  value-small : creadrValue (u .config) (u .registers) < 2 ^ 32
+  unfolding creadrValue
+  value-small =
+      cases (isStalled (u .config) (u .registers)) (λ on. rw on (omega (arith, small, reader-whole (u .registers) ring-of))) (λ no. rw no (omega (arith, small)))
+
+  high-so : read u (GITS-CREADR + 4) 4 ≡ Value 0
+  unfolding readFrom checkRead readPart
+  high-so =
+      let none : creadrValue (u .config) (u .registers) / 2 ^ 32 % 2 ^ 32 ≡ 0 = omega (arith, value-small) in
+      rw (sound, creadr-high-taken (u .config) (and-left (soundConfig (u .config)) _ sound), at-creadr-high, none)
+
   pub stalled-shown : StalledShown u
   stalled-shown =
       record {
         in-strict = λ y. shows _ (bit-small (u .registers .stalled)) (value-strict (is-strict (u .config) y));
+        high = λ r e. e .answer ∙ high-so;
         in-base = λ b. shows _ (omega (arith, small)) (creadr-plain (u .config) (u .registers) (rw (is-base (u .config) b)));
       }
+
+-- BASE DOES NOT READ IT.
+pub stalled-unread : (u : ItsState) → u .config .profile ≡ 0 → (b : Bool) → Unread u b
+stalled-unread u is b =
+    record {
+      reads = λ offset width r r′ e e′. e′ .answer ∙ (unread-reads u b is offset width ∙ sym (e .answer));
+      translates = λ d e r r′ q q′. q′ .answer ∙ (unread-translates u b d e ∙ sym (q .answer));
+      stores-same = λ row offset width value. unread-stores u b row offset width value is;
+      may-run = λ r. may-base (u .config) r b (rw is);
+      turns = λ w. turn-same u (withStalled (u .registers) b) w refl refl;
+    }

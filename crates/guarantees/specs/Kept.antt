@@ -61,7 +61,7 @@ pub record StopsAt (w : Window) (s : RegisterWrite) (r : Written) (why : Refusal
   pub waits : 0 < waiting (r .unit .registers)
   -- the unit that is left refuses it, for this reason and with this opcode
   pub fails : turn w (r .unit) ≡ stays why opcode
-  -- the offset answered is CREADR
+  -- the offset answered is CREADR's, without Stalled
   pub offset : at ≡ r .unit .registers .creadr
 
 -- REFUSAL AND ANSWER, of every unit, by the place where a refusal is given (Refusals.givenAt). offset, width and value are those of the write.

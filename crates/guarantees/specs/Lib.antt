@@ -7,8 +7,8 @@ pub mod Follows
 pub mod MappingsInForce
 pub mod CallsInForce
 pub mod Profiles
-pub mod Retries
 pub mod Stalled
+pub mod Retries
 pub mod ExampleCalls
 pub mod Traces
 pub mod ExampleStrict

@@ -3,10 +3,13 @@
 -- Assumes nothing.
 use Prim.Native.Nat.{ℕ}
 use mathlib.Core.Path.{_≡_}
+use mathlib.Core.Bool.{false, _&&_, not}
 use mathlib.Core.List.{List, [], _∷_, map}
+use lib.Dec.{eqb}
 use Rattle.model.specs.declared.ItsDeviceId.{ItsDeviceId}
 use Rattle.model.specs.declared.EventId.{EventId}
 use Rattle.model.specs.declared.ItsConfig.{ItsConfig}
+use Rattle.model.specs.declared.ItsRegisters.{ItsRegisters}
 use Rattle.model.specs.declared.ItsState.{ItsState}
 use Rattle.model.specs.declared.ItsAction.{ItsAction}
 use Rattle.model.specs.declared.RegisterWrite.{RegisterWrite}
@@ -18,8 +21,12 @@ use Rattle.model.specs.declared.Configured.{Configured}
 use Rattle.model.specs.declared.Written.{Written}
 use Rattle.model.specs.With.{withRegisters, withProfile}
 use Rattle.model.specs.Refusal.{verdictNumber, readNumbers, translateNumbers}
-use Rattle.model.specs.Queue.{Window}
-use Rattle.model.specs.In01.{configureIn01, readIn01, translateIn01, writeIn01}
+use Rattle.model.specs.Arm.{_of_, CBASER·Valid, GITS-CREADR}
+use Rattle.model.specs.Queue.{Window, mayRun}
+use Rattle.model.specs.Register.{liesIn}
+use Rattle.model.specs.Writing.{storedStalled, withoutRetry}
+use Rattle.model.specs.Entry.{stores}
+use Rattle.model.specs.In01.{configureIn01, readIn01, translateIn01, storesIn01, writeIn01}
 use Rattle.model.specs.Common.{inProfile, CommonWrite}
 use Rattle.model.specs.Trace.{Record, CF, GM, RD, WR, TR, Running, line, readLine, translateLine, writeLines, lentRow, linesOf}
 use Rattle.its.specs.Contracts.{Configures, Reads, Writes, Translates}
@@ -67,6 +74,17 @@ pub record As01 (u : ItsState) : Type 0 where
       × Tells (numbersOfWrite (writeIn01 w (map actionIn row) u offset width value .written .answer)) r told
   -- and a record of a trace has the same lines
   pub records : (w : Window) (r : Record) → InBase r → linesOf (standing u w) r ≡ linesIn01 (standing u w) r
+
+-- A STRICT UNIT BESIDE DOCUMENT 01'S, whatever it holds (02, A3 and A4): what it reads, stores and lets run. (What its commands do: Reasons, MappingsInForce.)
+pub record StrictAs01 (u : ItsState) : Type 0 where
+  -- a write stores what 01's unit stores of the value without bit 0 at CWRITER, but for Stalled (Stalled says what becomes of it)
+  pub stores-as : (row : List ItsAction) (offset width value : ℕ) →
+      stores row u offset width value ≡ storedStalled (storesIn01 row u offset width (withoutRetry offset value)) (stores row u offset width value .registers .stalled)
+  -- the queue runs in an enabled unit while bit 63 of CBASER is 1 and it is not stalled
+  pub may-run : (r : ItsRegisters) → mayRun (u .config) r ≡ (r .enabled && (eqb (CBASER·Valid of r .cbaser) 1 && not (r .stalled)))
+  -- every read that is not of CREADR, and every translation, is 01's
+  pub reads : (offset width : ℕ) (r : ReadAnswer) → Reads u offset width r → liesIn GITS-CREADR offset ≡ false → r ≡ readIn01 u offset width
+  pub translates : (d : ItsDeviceId) (e : EventId) (r : TranslateAnswer) → Translates u d e r → r ≡ translateIn01 u d e
 
 -- STRICT, of a queue that is held (model: Queue.held), by bit 63 of CBASER or by Stalled: what was written is stored, the answer is 0, and the row stays.
 abbrev pub OnlyStores : List ItsAction → ItsState → RegisterWrite → Written → List ItsAction → Type 0

@@ -1,5 +1,5 @@
--- Document 01, "Refusal numbers": CREADR stays on the failing command, and a later enabling CTLR write or accepted CWRITER write tries it again. In strict,
--- where that command has stalled the unit, only an accepted CWRITER write with Retry does (02, A4).
+-- Document 01, "Refusal numbers": CREADR stays on the failing command, and a later enabling CTLR write or accepted CWRITER write tries it again. In strict
+-- that command has stalled the unit, and until that is cleared no other write tries it than an accepted CWRITER write with Retry (02, A4).
 -- Assumes nothing.
 use Prim.Native.Nat.{ℕ, _+_, _≤_, _<_}
 use mathlib.Core.Path.{_≡_}
@@ -11,6 +11,7 @@ use Rattle.model.specs.declared.ItsAction.{ItsAction}
 use Rattle.model.specs.declared.Command.{Command}
 use Rattle.model.specs.declared.RegisterWrite.{RegisterWrite}
 use Rattle.model.specs.declared.Refusal.{Refusal}
+use Rattle.model.specs.declared.Refusal.the-variants.{BudgetExceeded}
 use Rattle.model.specs.declared.WriteAnswer.the-variants.{NotTaken}
 use Rattle.model.specs.declared.Written.{Written}
 use Rattle.model.specs.Arm.{_of_, CWRITER·Retry, GITS-CTLR, GITS-CWRITER}
@@ -22,7 +23,9 @@ use Rattle.model.specs.Entry.{stores}
 use Rattle.model.specs.Passed.{CarriedOut}
 use Rattle.its.specs.Contracts.{Writes}
 use Rattle.guarantees.specs.Actions.{passedBy}
+use Rattle.guarantees.specs.Refusals.{IfRefused}
 use Rattle.guarantees.specs.Profiles.{OnlyStores}
+use Rattle.guarantees.specs.Stalled.{accepted}
 
 -- The write tries its queue. s is what it does to the registers.
 pub record Tries (u : ItsState) (s : RegisterWrite) : Type 0 where
@@ -56,20 +59,28 @@ pub record TriesAgain (w : Window) (row : List ItsAction) (u : ItsState) (s : Re
   -- where the unit accepts it, it is the first command carried out
   pub accepts : (x : Command) → turn w u ≡ passes x → BeginsWith w u s r x
 
+-- the write is refused in the same way, does nothing and hands over nothing, and leaves unit and row as they are
+abbrev pub RefusedAgain : Written → Refusal → ℕ → ℕ → List ItsAction → Written → List ItsAction → Type 0
+RefusedAgain v why opcode offset row r left = (r ≡ record { unit = v .unit; answer = NotTaken why opcode offset 0 0 }) × (left ≡ row)
+
 -- After a write that was refused because of the command at CREADR, and answered v, with the reason why, the opcode and the offset, which is CREADR (Kept):
 pub record TriedLater (w : Window) (v : Written) (why : Refusal) (opcode offset : ℕ) : Type 0 where
   -- a later write that tries the queue, with any window, begins there
   pub again : (w′ : Window) (row : List ItsAction) (offset′ width value : ℕ) (r : Written) (left : List ItsAction) → Writes w′ row (v .unit) offset′ width value r left →
       Tries (v .unit) (stores row (v .unit) offset′ width value) → TriesAgain w′ row (v .unit) (stores row (v .unit) offset′ width value) r left
-  -- in base, with the same window, a CTLR write that enables is refused in the same way, and leaves unit and row as they are
+  -- in base, with the same window, a CTLR write that enables is refused in the same way
   pub same : profileOf (v .unit .config) ≡ base → (row : List ItsAction) (value : ℕ) (r : Written) (left : List ItsAction) → Writes w row (v .unit) GITS-CTLR 4 value r left →
       v .unit .config .«command_budget» ≤ length row → enables value ≡ true →
-      (r ≡ record { unit = v .unit; answer = NotTaken why opcode offset 0 0 }) × (left ≡ row)
+      RefusedAgain v why opcode offset row r left
   -- in strict a write without Retry that would let the queue run only stores: it tries nothing, be it a CTLR write that enables
   pub waits : profileOf (v .unit .config) ≡ strict → (w′ : Window) (row : List ItsAction) (offset′ width value : ℕ) (r : Written) (left : List ItsAction) →
       Writes w′ row (v .unit) offset′ width value r left → stores row (v .unit) offset′ width value .runs ≡ true → (offset′ ≡ GITS-CWRITER → CWRITER·Retry of value ≡ 0) →
       OnlyStores row (v .unit) (stores row (v .unit) offset′ width value) r left
-  -- and with the same window, CWRITER written as it is, with Retry, is refused in the same way, and leaves unit and row as they are
+  -- one of CWRITER with Retry that is accepted, and not answered with 5, begins there, with any window, while commands wait
+  pub with-retry : profileOf (v .unit .config) ≡ strict → (w′ : Window) (row : List ItsAction) (width value : ℕ) (r : Written) (left : List ItsAction) →
+      Writes w′ row (v .unit) GITS-CWRITER width value r left → CWRITER·Retry of value ≡ 1 → accepted (r .answer) ≡ true → IfRefused r BudgetExceeded (λ opcode at done actions. ⊥) →
+      0 < waiting (stores row (v .unit) GITS-CWRITER width value .registers) → TriesAgain w′ row (v .unit) (stores row (v .unit) GITS-CWRITER width value) r left
+  -- and with the same window, CWRITER written as it is, with Retry, is refused in the same way
   pub retried : profileOf (v .unit .config) ≡ strict → (row : List ItsAction) (r : Written) (left : List ItsAction) →
       Writes w row (v .unit) GITS-CWRITER 8 (v .unit .registers .cwriter + 1) r left → v .unit .config .«command_budget» ≤ length row →
-      (r ≡ record { unit = v .unit; answer = NotTaken why opcode offset 0 0 }) × (left ≡ row)
+      RefusedAgain v why opcode offset row r left

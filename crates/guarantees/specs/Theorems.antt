@@ -3,7 +3,7 @@
 -- Assumes nothing.
 use Prim.Native.Nat.{ℕ, _+_, _≤_, _<_}
 use mathlib.Core.Path.{_≡_}
-use mathlib.Core.Bool.{true, false}
+use mathlib.Core.Bool.{Bool, true, false}
 use mathlib.Core.List.{List, [], _∷_, _++_, map}
 use mathlib.Core.Logic.{_⊎_, _↔_}
 use lib.ListN.{take, drop}
@@ -27,7 +27,7 @@ use Rattle.model.specs.Arm.{_of_, CBASER·Valid, CWRITER·Retry, GITS-CWRITER}
 use Rattle.model.specs.Profile.{Profile, strict, profileOf}
 use Rattle.model.specs.Step.{check}
 use Rattle.model.specs.Queue.{Window, stays, turn}
-use Rattle.model.specs.With.{withProfile}
+use Rattle.model.specs.With.{withProfile, unitStalled}
 use Rattle.model.specs.Entry.{stores}
 use Rattle.model.specs.In01.{configureIn01}
 use Rattle.model.specs.Common.{CommonWrite}
@@ -46,8 +46,8 @@ use Rattle.guarantees.specs.Follows.{RingFollows, CommandsFollow, Refusa
 use Rattle.guarantees.specs.MappingsInForce.{Led, OfWritesTo, MappingsInForce}
 use Rattle.guarantees.specs.CallsInForce.{LedByCalls, OfCallsTo, CallsInForce}
 use Rattle.guarantees.specs.Retries.{Tries, TriesAgain, TriedLater}
-use Rattle.guarantees.specs.Stalled.{StalledKept, trail, trailTold, StoppedSince, StalledShown}
-use Rattle.guarantees.specs.Profiles.{As01, OnlyStores, LedAlike, AnswerAlike}
+use Rattle.guarantees.specs.Stalled.{StalledKept, trail, trailTold, StoppedSince, StalledShown, Unread}
+use Rattle.guarantees.specs.Profiles.{As01, StrictAs01, OnlyStores, LedAlike, AnswerAlike}
 use Rattle.guarantees.specs.Traces.{recordsIn, traceLinesIn01, AllInBase, CommonAlong, SameInStrict}
 use Rattle.guarantees.specs.ExampleStrict.{ExampleStrict}
 use Rattle.guarantees.specs.ExampleCalls.{ExampleByEntries, ExampleByCalls}
@@ -80,6 +80,8 @@ pub record Theorems : Type 0 where
   -- and its_trace, of a trace whose configurations are in base, writes the lines of 01's unit (Traces)
   pub base-traces : (trace out : List ℕ) (r : ℕ) (left : List ℕ) → Traced trace out r left → AllInBase (recordsIn trace) →
       (r ≡ returnedWith (traceLinesIn01 trace) out) × (left ≡ outputWith (traceLinesIn01 trace) out)
+  -- A STRICT UNIT BESIDE 01'S (Profiles): what it reads, stores and lets run, of every unit of that profile
+  pub strict-as-01 : (u : ItsState) → profileOf (u .config) ≡ strict → StrictAs01 u
   -- STRICT: while bit 63 of CBASER is 0 the queue runs nothing and there is no 5 (Profiles), on every unit. (A valid MAPD: mappings-in-force; device too
   -- large: refused-because)
   pub held-stores : OfEveryWrite (λ w row u offset width value r left. profileOf (u .config) ≡ strict → stores row u offset width value .runs ≡ true →
@@ -96,6 +98,10 @@ pub record Theorems : Type 0 where
       (u .registers .stalled ≡ true) ↔ StoppedSince (trailTold l)
   -- and reads of CREADR show it
   pub stalled-shown : (u : ItsState) → soundUnit u ≡ true → StalledShown u
+  -- to a base unit it makes no difference what stands there
+  pub stalled-unread : (u : ItsState) → u .config .profile ≡ 0 → (b : Bool) → Unread u b
+  -- and to no unit whether it is sound
+  pub sound-stalled : (u : ItsState) (b : Bool) → soundUnit (unitStalled u b) ≡ soundUnit u
   -- A PROFILE THAT THERE IS NOT is refused with 1: any number above 1
   pub no-such-profile : (k : ItsConfig) (c : Configured) → Configures k c → 1 < k .profile → c .verdict ≡ Refused Unsound
   -- by its_configure too
@@ -176,11 +182,14 @@ pub record Theorems : Type 0 where
   pub another-layout : (s : List ℕ) → (word s LAYOUT ≡ LAYOUT-NUMBER → ⊥) → AnswersOne (unitIn s)
   -- so those of the layout that had no number: the highest LPI stood there
   pub layout-before : (s : List ℕ) → 8192 ≤ word s LAYOUT → AnswersOne (unitIn s)
+  -- and those of layout 1, which had no Stalled (02, A4)
+  pub layout-1 : (s : List ℕ) → word s LAYOUT ≡ 1 → AnswersOne (unitIn s)
   -- 1 to everything too: the unit that stands where none was configured
   pub no-unit-answers-1 : (u : ItsState) → NoUnit u → AnswersOne u
   -- and the one that a refused configuration gives; its refusal is 1
   pub refused-configuration : (k : ItsConfig) (c : Configured) → Configures k c → (why : Refusal) → c .verdict ≡ Refused why → (why ≡ Unsound) × AnswersOne (c .unit)
-  -- A LATER WRITE TRIES AGAIN (Retries): one that runs the queue begins with the command on which CREADR stands. In strict that is one with Retry
+  -- A LATER WRITE TRIES AGAIN (Retries): one that runs the queue begins with the command on which CREADR stands. (In strict, while the unit is stalled, that
+  -- is one with Retry)
   pub tries-again : OfEveryWrite (λ w row u offset width value r left. Tries u (stores row u offset width value) →
       TriesAgain w row u (stores row u offset width value) r left)
   -- after a write that was refused because of that command

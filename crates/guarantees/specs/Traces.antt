@@ -1,4 +1,4 @@
--- Document 02, A3, over whole traces: the bytes of a trace read as records, and the lines of these, one record after the other. (That the lines of a trace,
+-- Document 02, A3 and A4, over whole traces: the bytes of a trace read as records, and the lines of these, one record after the other. (That the lines of a trace,
 -- model: Trace.traceLines, are these lines: proofs/Traces.by-records.)
 -- Assumes nothing.
 use Prim.Native.Nat.{ℕ, zero, suc, _+_}

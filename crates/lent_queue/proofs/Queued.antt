@@ -1,4 +1,4 @@
--- The queue of a unit that is lent as numbers: the unit is off, more commands wait than the budget, or they are run.
+-- The queue of a unit that is lent as numbers: it may not run, more commands wait than the budget, or they are run.
 -- Assumes nothing.
 use Prim.Native.Nat.{ℕ, _^_, _<_, _≤_}
 use native.Mathlib.Omega.{arith}

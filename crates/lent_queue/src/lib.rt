@@ -117,7 +117,7 @@ fn run(state: &mut Numbers, address: u64, bytes: &[u8], row: &mut [u64], count: 
     answers::answer_of(n, state[lent_tables::CREADR])
 }
 
-// A queue that may run is run: 5 is tested once, then each command in turn; one that is refused stalls the unit.
+// A queue that may run is run: 5 is tested once, then each command in turn; one that is refused stalls the unit in strict.
 pub fn process_commands(
     state: &mut Numbers,
     address: u64,

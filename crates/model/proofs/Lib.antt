@@ -18,6 +18,7 @@ pub mod Promised
 pub mod Profiles
 pub mod Retry
 pub mod Stalled
+pub mod Registers
 pub mod AnyProfile
 pub mod Alike
 pub mod ArmFacts

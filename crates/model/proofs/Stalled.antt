@@ -92,7 +92,7 @@ module _ (u : ItsState) (offset width value : ℕ) where
   same : (s : RegisterWrite) → s .registers .stalled ≡ r .stalled → clears s offset value ≡ false → Left s
   same s e n = e ∙ sym (ap (λ c. leaves strict c (r .stalled)) n ∙ ap (λ c. not c && r .stalled) (off-and strict))
 
-  not-writer : (n : Register) → registerAt offset ≡ n → (n ≡ Cwriter → ⊥) → eqb offset GITS-CWRITER ≡ false
+  pub not-writer : (n : Register) → registerAt offset ≡ n → (n ≡ Cwriter → ⊥) → eqb offset GITS-CWRITER ≡ false
   unfolding registerAt
   not-writer n at other =
       cases (eqb offset GITS-CWRITER) (λ y. absurd (other (sym (rw (eqb-true offset GITS-CWRITER y) at at)))) (λ z. z)

@@ -46,6 +46,7 @@ pub record CommonQueue (w : Window) (u : ItsState) (s : RegisterWrite) : Type 0 
 
 -- Of a write to the unit u.
 pub record CommonWrite (w : Window) (row : List ItsAction) (u : ItsState) (offset width value : ℕ) : Type 0 where
-  -- one of CWRITER has no bit 0, which in strict is Retry (A4); at the register's high half, GITS-CWRITER + 4, there is none
+  -- one of CWRITER has no bit 0, which in strict is Retry (A4); at the register's high half, GITS-CWRITER + 4, there is none. (A write that is refused at
+  -- the entry is the same in both, whatever its value)
   pub no-retry : offset ≡ GITS-CWRITER → CWRITER·Retry of value ≡ 0
   pub queue : CommonQueue w u (stores row u offset width value)

@@ -127,13 +127,14 @@ strictLines =
     ascii "CF 0\nGM 0\nWR 0 0 0 0 0\nWR 0 0 0 0 0\nWR 0 0 0 0 0\nWR 0 0 0 0 0\nRD 0 0\nRD 0 4064\nWR 0 0 0 0 0\nWR 0 0 0 0 0\nWR 0 0 0 0 0\n"
     ++ ascii "WR 0 0 0 4 1\nAC 1 8200 1\nTR 0 8200 1\nGM 0\nWR 20 14 256 4 0\nTR 8 0 0\nGM 0\nWR 27 3 256 0 0\n"
 
--- 02, A4. Strict: the writers 1, which is 0 with Retry, and 33, which is 32 with it and refused. MAPD of device 5 and then the opcode 0E, which stops the
+-- 02, A4. Strict: the writers 1, which is 0 with Retry, and 33, which is 32 with it and refused, and one above 2^32, which counts whole. MAPD of device 5 and then the opcode 0E, which stops the
 -- ring: CREADR shows Stalled, at both widths and not in its high half, and CWRITER no Retry
 abbrev pub stallingTrace : List ℕ
 stallingTrace =
     CFs 1
     ++ (WRs 0x88 8 1
     ++ (WRs 0x88 8 33
+    ++ (WRs 0x88 8 0x100000001
     ++ (GMs 0x40000000 (words (0x500000008 ∷ 3 ∷ 0x8000000000000000 ∷ 0 ∷ 0x0E ∷ 0 ∷ 0 ∷ 0 ∷ []))
     ++ (WRs 0x80 8 0x8000000040000000
     ++ (WRs 0 4 1
@@ -141,29 +142,34 @@ stallingTrace =
     ++ (RDs 0x90 8
     ++ (RDs 0x90 4
     ++ (RDs 0x94 4
-    ++ RDs 0x88 8)))))))))
+    ++ RDs 0x88 8))))))))))
 
 abbrev pub stallingLines : List ℕ
-stallingLines = ascii "CF 0\nWR 0 0 0 0 0\nWR 7 0 32 0 0\nGM 0\nWR 0 0 0 0 0\nWR 0 0 0 0 0\nWR 20 14 32 1 0\nRD 0 33\nRD 0 33\nRD 0 0\nRD 0 64\n"
+stallingLines = ascii "CF 0\nWR 0 0 0 0 0\nWR 7 0 32 0 0\nWR 7 0 4294967296 0 0\nGM 0\nWR 0 0 0 0 0\nWR 0 0 0 0 0\nWR 20 14 32 1 0\nRD 0 33\nRD 0 33\nRD 0 0\nRD 0 64\n"
 
--- Then nothing runs and there is no 5, though the budget is 64: CTLR; CWRITER without Retry, so that 126 wait; bit 0 of CWRITER's high half; and Retry
--- with a writer that is refused. An accepted Retry clears Stalled: here more wait than the budget, and Stalled stays clear. With fewer the opcode 0E
+-- Then nothing runs and there is no 5, though the budget is 64: CTLR, off and on; CWRITER without Retry, which is stored, so that 126 wait; bit 0 of
+-- CWRITER's high half; and Retry with a writer that is refused, beyond the ring or no multiple of 32. An accepted Retry clears Stalled: here more wait than the budget, and Stalled stays clear. With fewer the opcode 0E
 -- stalls the unit again
 abbrev pub stalledTrace : List ℕ
 stalledTrace =
-    WRs 0 4 1
+    WRs 0 4 0
+    ++ (WRs 0 4 1
+    ++ (RDs 0 4
     ++ (WRs 0x88 8 4064
+    ++ (RDs 0x88 8
     ++ (WRs 0x8C 4 1
     ++ (RDs 0x90 8
     ++ (WRs 0x88 8 4097
+    ++ (WRs 0x88 8 67
     ++ (RDs 0x90 8
     ++ (WRs 0x88 8 4065
     ++ (RDs 0x90 8
     ++ (WRs 0x88 4 65
-    ++ RDs 0x90 4))))))))
+    ++ RDs 0x90 4))))))))))))
 
 abbrev pub stalledLines : List ℕ
-stalledLines = ascii "WR 0 0 0 0 0\nWR 0 0 0 0 0\nWR 0 0 0 0 0\nRD 0 33\nWR 7 0 4096 0 0\nRD 0 33\nWR 5 0 32 0 0\nRD 0 32\nWR 20 14 32 0 0\nRD 0 33\n"
+stalledLines =
+    ascii "WR 0 0 0 0 0\nWR 0 0 0 0 0\nRD 0 2147483649\nWR 0 0 0 0 0\nRD 0 4064\nWR 0 0 0 0 0\nRD 0 33\nWR 7 0 4096 0 0\nWR 7 0 66 0 0\nRD 0 33\nWR 5 0 32 0 0\nRD 0 32\nWR 20 14 32 0 0\nRD 0 33\n"
 
 -- A SYNC stands in the place of the opcode 0E, and Retry goes on to the end. Then the ring stops again; a CBASER write is ignored while the unit is enabled,
 -- and clears Stalled where it is stored. And base, where bit 0 of CWRITER is refused as before

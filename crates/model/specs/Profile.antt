@@ -11,7 +11,7 @@ pub data Profile : Type 0 where
   -- document 01's behaviour
   base : Profile
   -- with A3's three changes (Step.check and Step.cleared have the first two, Queue.held the third) and A4's Retry and Stalled (Writing.toCwriter,
-  -- Queue.stall, Queue.held, Register.creadrValue)
+  -- Writing.toCbaser, Queue.stall, Queue.held, Register.creadrValue)
   strict : Profile
 
 -- 0 is base and 1 strict; any other number is refused

@@ -1,4 +1,5 @@
--- Document 02, A3: corners of the strict profile, command by command, as a single table; what the queue does is a trace, Example.strictTrace.
+-- Document 02, A3: corners of the strict profile, command by command, as a single table; what the queue does are traces, Example.strictTrace and, of A4,
+-- Example.retryTrace.
 -- proofs/Corners.antt proves that every line holds.
 -- Assumes nothing.
 use Prim.Native.Nat.{ℕ}

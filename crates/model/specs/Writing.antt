@@ -15,7 +15,7 @@ use Rattle.model.specs.declared.Refusal.{Refusal}
 use Rattle.model.specs.declared.Refusal.the-variants.{BaseZero, WriterRefused}
 use Rattle.model.specs.declared.WriteAnswer.the-variants.{Taken, NotTaken}
 use Rattle.model.specs.Choose.{if_then_else_, _or_then_}
-use Rattle.model.specs.Arm.{bits, _of_, _in-place_, without, CTLR·Enabled, CWRITER·Retry, BASER·Type, BASER·Entry-Size}
+use Rattle.model.specs.Arm.{bits, _of_, _in-place_, without, CTLR·Enabled, CWRITER·Retry, GITS-CWRITER, BASER·Type, BASER·Entry-Size}
 use Rattle.model.specs.With.{withEnabled, withStalled, withRing, withWriter, withBasers}
 use Rattle.model.specs.Profile.{isStrict}
 use Rattle.model.specs.Config.{queueBase, isQueueOffset}
@@ -129,3 +129,11 @@ registerWrite k r room offset width value =
     ifAccepted (checkWrite k r room offset width)
     (writeRegister k r (valueWritten k r offset width value (registerAt offset)) (registerAt offset))
     (refusing r 0)
+
+-- For the theorems beside document 01's unit: what is stored, with Stalled so
+abbrev pub storedStalled : RegisterWrite → Bool → RegisterWrite
+storedStalled s b = record { registers = withStalled (s .registers) b; rebased = s .rebased; runs = s .runs; answer = s .answer }
+
+-- and the value that counts: at CWRITER without bit 0, which is Retry. (At the register's high half, GITS-CWRITER + 4, it is the whole value)
+abbrev pub withoutRetry : ℕ → ℕ → ℕ
+withoutRetry offset value = if eqb offset GITS-CWRITER then without CWRITER·Retry value else value

@@ -174,7 +174,7 @@ fn set_enabled(registers: ItsRegisters, value: u64) -> RegisterWrite
     stored_to_run(next)
 }
 
-// Bit 63, Arm's Valid, is not looked at. In strict Stalled is cleared.
+// Bit 63, Arm's Valid, is not looked at. What is stored clears Stalled in strict.
 fn set_cbaser(config: ItsConfig, registers: ItsRegisters, value: u64) -> RegisterWrite
     ensures { λ r. ⌜ r ≡ toCbaser config registers value ⌝ }
 {

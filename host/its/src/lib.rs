@@ -22,7 +22,15 @@ pub const WORDS: usize = 608;
 /// The layout of these words: the first of them holds its number. Under another
 /// one they are a unit that is not configured, and no call but
 /// [`Its::configure`] changes them.
-pub const LAYOUT: u64 = 1;
+pub const LAYOUT: u64 = 2;
+
+/// Bit 0 of CWRITER, for a strict unit: go on with the command that stopped the
+/// queue. It is taken off before the offset is looked at, and is not stored.
+pub const RETRY: u64 = 1;
+
+/// Bit 0 of CREADR, as a strict unit shows it: a refused command has stopped the
+/// queue. No offset that a write reports has it.
+pub const STALLED: u64 = 1;
 
 /// An action row that is long enough for any command budget.
 pub type Row = [Action; 1024];
@@ -88,9 +96,9 @@ impl Its {
     }
 
     /// Writes a register of the frame. An enabled unit then runs its queue (a
-    /// strict one only while bit 63 of CBASER is 1): it reads commands from the
-    /// window, and puts the actions of INT and CLEAR into the row, which must
-    /// have room for a whole command budget.
+    /// strict one only while bit 63 of CBASER is 1 and it is not [`STALLED`]): it
+    /// reads commands from the window, and puts the actions of INT and CLEAR into
+    /// the row, which must have room for a whole command budget.
     ///
     /// It hands over the actions of this write, which are the row's first, and
     /// answers. They stand beside the answer and not in it, for they are to be

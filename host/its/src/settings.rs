@@ -8,8 +8,12 @@ pub enum Profile {
     #[default]
     Base,
     /// A device that is mapped again loses its pairs, a command that names one
-    /// above 65535 is refused with 27, and the queue is held while bit 63 of
-    /// CBASER is 0.
+    /// above 65535 is refused with 27, the queue is held while bit 63 of CBASER
+    /// is 0, and a refused command stalls it: CREADR shows [`STALLED`], and an
+    /// accepted CWRITER with [`RETRY`] or a new CBASER lets it go on.
+    ///
+    /// [`STALLED`]: crate::STALLED
+    /// [`RETRY`]: crate::RETRY
     Strict,
     /// A number that this crate does not name, as [`Profile::of`] makes it. A
     /// unit that does not know it refuses the configuration with 1.

@@ -7,7 +7,7 @@ use its::Profile::{self, Base, Strict};
 use its::command::{Command, clear, discard, int, inv, invall, mapc, mapd, mapi, mapti, movi};
 use its::command::{sync, unmapd};
 use its::{CollectionId, DeviceId, EventId, Its, Lpi, Processor};
-use its::{Refusal, WriteRefused, Written};
+use its::{RETRY, Refusal, STALLED, WriteRefused, Written};
 
 const ONE: CollectionId = CollectionId(1);
 const TWO: CollectionId = CollectionId(2);
@@ -210,7 +210,7 @@ fn a_queue_without_bit_63_is_held() {
         assert_eq!(host.its.read(CREADR, 8), Ok(0));
     }
     // An offset that is no place of the queue is refused as ever.
-    let (_, answer) = host.write(CWRITER, 8, 33);
+    let (_, answer) = host.write(CWRITER, 8, 48);
     assert_eq!(answer.unwrap_err().refusal, Refusal::WriterRefused);
 
     // While the unit is on, CBASER is not stored; while it is off it is, and both
@@ -224,6 +224,129 @@ fn a_queue_without_bit_63_is_held() {
     host.queue.clear();
     let written = Written { done: 1, ..NOTHING };
     assert_eq!(host.run(&[sync(Processor(3))]), (vec![], Ok(written)));
+}
+
+/// The queue stops at the third command, which names no device that is mapped.
+fn stopped(profile: Profile) -> Host {
+    let mut host = Host::new(profile);
+    let unmapped = mapti(DeviceId(6), EventId(0), Lpi(8_208), ONE);
+    let (_, answer) = host.run(&[
+        mapc(ONE, Processor(3)),
+        mapd(DeviceId(5), 4),
+        unmapped,
+        sync(Processor(3)),
+    ]);
+    let refused = answer.unwrap_err();
+    assert_eq!(
+        (refused.refusal, refused.offset, refused.done),
+        (Refusal::DeviceUnmapped, 64, 2)
+    );
+    host
+}
+
+/// docs/HOSTS.md, "A driver that sees Stalled": it mends the command in memory
+/// and writes CWRITER with Retry.
+#[test]
+fn a_driver_that_sees_stalled() {
+    let mut host = stopped(Strict);
+    for width in [8, 4] {
+        assert_eq!(host.its.read(CREADR, width), Ok(64 | STALLED));
+    }
+    assert_eq!(host.its.read(CREADR + 4, 4), Ok(0));
+    // Nothing tries it again: CTLR, or CWRITER without Retry.
+    assert_eq!(host.write(CTLR, 4, 1), (vec![], Ok(NOTHING)));
+    assert_eq!(host.write(CWRITER, 8, 128), (vec![], Ok(NOTHING)));
+    assert_eq!(host.its.read(CREADR, 8), Ok(64 | STALLED));
+    // With Retry it is tried, and refused as before.
+    let again = host.write(CWRITER, 8, 128 | RETRY).1.unwrap_err();
+    assert_eq!(
+        (again.refusal, again.offset, again.done),
+        (Refusal::DeviceUnmapped, 64, 0)
+    );
+    assert_eq!(host.its.read(CREADR, 8), Ok(64 | STALLED));
+    assert_eq!(host.its.read(CWRITER, 8), Ok(128));
+
+    host.queue[64..96].copy_from_slice(&mapd(DeviceId(6), 4));
+    let written = Written { done: 2, ..NOTHING };
+    assert_eq!(host.write(CWRITER, 8, 128 | RETRY), (vec![], Ok(written)));
+    assert_eq!(host.its.read(CREADR, 8), Ok(128));
+    assert_eq!(host.its.read(CWRITER, 8), Ok(128));
+}
+
+#[test]
+fn what_does_not_end_a_stall() {
+    let mut host = stopped(Strict);
+    // More wait than the budget, and there is no 5.
+    assert_eq!(host.write(CWRITER, 8, 4_064), (vec![], Ok(NOTHING)));
+    // Retry with an offset that is no place of the queue; the offset told has no
+    // bit 0.
+    let refused = host.write(CWRITER, 8, 4_096 | RETRY).1.unwrap_err();
+    assert_eq!(
+        (refused.refusal, refused.offset),
+        (Refusal::WriterRefused, 4_096)
+    );
+    // Bit 0 of the high half is no Retry.
+    assert_eq!(host.write(CWRITER + 4, 4, 1), (vec![], Ok(NOTHING)));
+    // CBASER is ignored while the unit is on.
+    assert_eq!(host.write(CBASER, 8, VALID | QUEUE), (vec![], Ok(NOTHING)));
+    assert_eq!(host.its.read(CREADR, 8), Ok(64 | STALLED));
+    // Retry clears it even where more wait than the budget.
+    let refused = host.write(CWRITER, 8, 4_064 | RETRY).1.unwrap_err();
+    assert_eq!(
+        (refused.refusal, refused.offset),
+        (Refusal::BudgetExceeded, 64)
+    );
+    assert_eq!(host.its.read(CREADR, 8), Ok(64));
+}
+
+#[test]
+fn retry_while_the_unit_is_off_and_a_new_base_end_a_stall() {
+    let mut host = stopped(Strict);
+    assert_eq!(host.write(CTLR, 4, 0), (vec![], Ok(NOTHING)));
+    assert_eq!(host.its.read(CREADR, 8), Ok(64 | STALLED));
+    assert_eq!(host.write(CWRITER, 4, 128 | RETRY), (vec![], Ok(NOTHING)));
+    assert_eq!(host.its.read(CREADR, 8), Ok(64));
+
+    let mut host = stopped(Strict);
+    assert_eq!(host.write(CTLR, 4, 0), (vec![], Ok(NOTHING)));
+    // One at address 0 is refused, and ends nothing.
+    let refused = host.write(CBASER, 8, VALID).1.unwrap_err();
+    assert_eq!(refused.refusal, Refusal::BaseZero);
+    assert_eq!(host.its.read(CREADR, 8), Ok(64 | STALLED));
+    assert_eq!(host.write(CBASER, 8, VALID | QUEUE), (vec![], Ok(NOTHING)));
+    assert_eq!(host.its.read(CREADR, 8), Ok(0));
+}
+
+#[test]
+fn retry_before_the_queue_has_a_base() {
+    for (profile, first, second) in [(Base, Err(1), Err(33)), (Strict, Ok(()), Err(32))] {
+        let mut host = Host::new(profile);
+        host.its
+            .configure(&SETTINGS.profile(profile), &PROCESSORS)
+            .unwrap();
+        for (value, expected) in [(RETRY, first), (32 | RETRY, second)] {
+            let answer = host.write(CWRITER, 8, value).1;
+            assert_eq!(
+                answer.map(|_| ()).map_err(|refused| refused.offset),
+                expected
+            );
+        }
+    }
+}
+
+/// In base bit 0 makes the offset no place of the queue, CREADR has no Stalled,
+/// and a write that enables tries the command again.
+#[test]
+fn base_knows_neither_retry_nor_stalled() {
+    let mut host = stopped(Base);
+    assert_eq!(host.its.read(CREADR, 8), Ok(64));
+    let refused = host.write(CWRITER, 8, 128 | RETRY).1.unwrap_err();
+    assert_eq!(
+        (refused.refusal, refused.offset),
+        (Refusal::WriterRefused, 129)
+    );
+    let again = host.write(CTLR, 4, 1).1.unwrap_err();
+    assert_eq!((again.refusal, again.offset), (Refusal::DeviceUnmapped, 64));
 }
 
 #[test]
