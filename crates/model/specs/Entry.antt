@@ -56,8 +56,8 @@ pub record Outcome : Type 0 where
   pub written : Written
   pub row : List ItsAction
 
--- what a write answers after a run: opcode is the command's, else 0; offset for 5, 6 and refused commands is CREADR's, without Stalled; actions is the number handed
--- over, k: that of the actions that the run made, whether a command was refused or not (02, A2). 5 runs no command and has none
+-- what a write answers after a run: opcode is the command's, else 0; offset for 5, 6 and refused commands is CREADR's, without Stalled; actions is the
+-- number handed over, k: that of the actions that the run made, whether a command was refused or not (02, A2). 5 runs no command and has none
 abbrev pub answerOf : Ran → WriteAnswer
 answerOf r =
     ifFound (r .stopped)

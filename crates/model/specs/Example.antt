@@ -127,8 +127,8 @@ strictLines =
     ascii "CF 0\nGM 0\nWR 0 0 0 0 0\nWR 0 0 0 0 0\nWR 0 0 0 0 0\nWR 0 0 0 0 0\nRD 0 0\nRD 0 4064\nWR 0 0 0 0 0\nWR 0 0 0 0 0\nWR 0 0 0 0 0\n"
     ++ ascii "WR 0 0 0 4 1\nAC 1 8200 1\nTR 0 8200 1\nGM 0\nWR 20 14 256 4 0\nTR 8 0 0\nGM 0\nWR 27 3 256 0 0\n"
 
--- 02, A4. Strict: the writers 1, which is 0 with Retry, and 33, which is 32 with it and refused, and one above 2^32, which counts whole. MAPD of device 5 and then the opcode 0E, which stops the
--- ring: CREADR shows Stalled, at both widths and not in its high half, and CWRITER no Retry
+-- 02, A4. Strict: the writers 1, which is 0 with Retry, and 33, which is 32 with it and refused, and one above 2^32, which counts whole. MAPD of device 5
+-- and then the opcode 0E, which stops the ring: CREADR shows Stalled, at both widths and not in its high half, and CWRITER no Retry
 abbrev pub stallingTrace : List ℕ
 stallingTrace =
     CFs 1
@@ -148,8 +148,8 @@ abbrev pub stallingLines : List ℕ
 stallingLines = ascii "CF 0\nWR 0 0 0 0 0\nWR 7 0 32 0 0\nWR 7 0 4294967296 0 0\nGM 0\nWR 0 0 0 0 0\nWR 0 0 0 0 0\nWR 20 14 32 1 0\nRD 0 33\nRD 0 33\nRD 0 0\nRD 0 64\n"
 
 -- Then nothing runs and there is no 5, though the budget is 64: CTLR, off and on; CWRITER without Retry, which is stored, so that 126 wait; bit 0 of
--- CWRITER's high half; and Retry with a writer that is refused, beyond the ring or no multiple of 32. An accepted Retry clears Stalled: here more wait than the budget, and Stalled stays clear. With fewer the opcode 0E
--- stalls the unit again
+-- CWRITER's high half; and Retry with a writer that is refused, beyond the ring or no multiple of 32. An accepted Retry clears Stalled: here more wait than
+-- the budget, and Stalled stays clear. With fewer the opcode 0E stalls the unit again
 abbrev pub stalledTrace : List ℕ
 stalledTrace =
     WRs 0 4 0
