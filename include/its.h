@@ -97,9 +97,10 @@ enum its_refusal {
  * from it in this: a valid MAPD of a mapped device first drops the device's pairs; a command that names a device above 65535 is refused with 27; while
  * bit 63 of CBASER is 0 the queue does not run, and no write is refused with 5; and a refused command stalls the unit.
  *
- * A stalled unit runs nothing, and no write is refused with 5. Reads of CREADR have ITS_STALLED set, at 8 bytes and in the low half; the offsets that
- * its_write tells do not. A CWRITER write that is accepted and has ITS_RETRY set goes on with the command on which CREADR stands; one of CBASER that is
- * stored starts anew. Nothing else ends it. In base a CWRITER with ITS_RETRY is refused with 7.
+ * A stalled unit runs nothing, and no write without ITS_RETRY is refused with 5. Reads of CREADR have ITS_STALLED set, at 8 bytes and in the low half;
+ * the offsets that its_write tells do not. A CWRITER write that is accepted and has ITS_RETRY set ends it, also while the unit is disabled; an enabled one
+ * then goes on with the command on which CREADR stands, or answers 5 where more wait than the budget, and is not stalled by that. A CBASER write that is
+ * stored ends it too, and starts anew. Nothing else does. In base a CWRITER with ITS_RETRY is refused with 7.
  */
 #define ITS_RETRY 1 /* Bit 0 of CWRITER, strict only. It is taken off before the offset is looked at, and is not stored. */
 #define ITS_STALLED 1 /* Bit 0 of CREADR, strict only. */

@@ -122,7 +122,8 @@ pub record Theorems : Type 0 where
   -- and its_trace returns and writes the same for a trace and for the same one with its configurations in strict (Traces)
   pub traces-alike : (trace trace′ out : List ℕ) (r r′ : ℕ) (left left′ : List ℕ) → Traced trace out r left → Traced trace′ out r′ left′ →
       SameInStrict trace trace′ → AllInBase (recordsIn trace) → CommonAlong atStart (recordsIn trace) → (r′ ≡ r) × (left′ ≡ left)
-  -- IT IS NOT EMPTY: 01's example is such a run, and in strict a run of demand 3, after which device 5 is mapped again (ExampleStrict)
+  -- IT IS NOT EMPTY: 01's example is such a run, and in strict a run of demand 3, after which device 5 is mapped again; then a
+  -- command stalls the unit, and Retry goes on (ExampleStrict)
   pub example-strict : ExampleStrict
   -- EACH ACTION HANDED OVER IS WHAT THE HISTORY GIVES (Actions): of every write, refused or not, to a unit to which calls led
   pub actions-given : {k : ItsConfig} {u : ItsState} {h : List Command} → Led k u h → OfWritesTo u (λ w row offset width value r left. ActionsGiven (profileOf k) h w u r left)

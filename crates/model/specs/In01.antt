@@ -1,5 +1,6 @@
 -- DOCUMENT 01'S UNIT, with A1's numbers and A2's actions, and without a profile: what a configuration, a read, a translation and a write are there.
--- Stalled is carried along, and not looked at. `guarantees: Profiles` says that a base unit is this one. Checks and effects of a command are in Step (checkIn01, effectIn01), the sizes in Config (sizesIn01).
+-- Stalled is carried along, and not looked at. `guarantees: Profiles` says that a base unit is this one. Checks and effects of a command are in Step
+-- (checkIn01, effectIn01), the sizes in Config (sizesIn01).
 -- Assumes nothing.
 use Prim.Native.Nat.{ℕ, zero, suc}
 use mathlib.Core.Bool.{Bool, _&&_}

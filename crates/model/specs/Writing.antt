@@ -1,6 +1,6 @@
--- Document 01, "Registers" and "Refusal numbers", and document 02, A4: what a write does to the registers before any command runs. It says what the write stores, whether
--- that is a new base, whether the queue then runs, and the answer where it does not. The entry, what is promised of a write, and both texts of the
--- unit go by it.
+-- Document 01, "Registers" and "Refusal numbers", and document 02, A4: what a write does to the registers before any command runs. It says what the
+-- write stores, whether that is a new base, whether the queue then runs, and the answer where it does not. The entry, what is promised of a write, and
+-- both texts of the unit go by it.
 -- Assumes nothing.
 use Prim.Native.Nat.{ℕ, _+_}
 use mathlib.Core.Bool.{Bool, true, false, _&&_, not}
