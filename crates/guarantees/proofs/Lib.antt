@@ -18,6 +18,7 @@ pub mod ByCalls
 pub mod ExampleLed
 pub mod Frames
 pub mod Again
+pub mod Alike
 pub mod Stalled
 pub mod Later
 pub mod Profiles

@@ -4,10 +4,8 @@ use Prim.Native.Nat.{ℕ}
 use mathlib.Core.Path.{_≡_, refl, sym, ap, subst, _∙_}
 use mathlib.Core.Bool.{false}
 use mathlib.Core.List.{List, [], _∷_, map}
-use lib.ListN.{getD}
 use Rattle.model.specs.declared.ItsConfig.{ItsConfig}
 use Rattle.model.specs.declared.ItsState.{ItsState}
-use Rattle.model.specs.declared.ItsAction.{ItsAction}
 use Rattle.model.specs.declared.Configured.{Configured}
 use Rattle.model.specs.declared.Command.{Command}
 use Rattle.model.specs.With.{withProfile}
@@ -23,9 +21,11 @@ use Rattle.model.proofs.Profiles.{is-strict, base-reads, base-translates, base-
 use Rattle.model.proofs.Registers.{strict-stores, strict-runs, strict-reads, strict-translates}
 use Rattle.model.proofs.Alike.{same-reads, same-translates, same-writes, same-made, same-verdict, same-fresh, fresh-base}
 use Rattle.its.specs.Contracts.{Configures, Writes}
-use Rattle.host.specs.Calls.{Tells, numbersOfRead, numbersOfWrite, numbersOfTranslation, actionIn, rowWith, actionsMade, setting, noneFurther, configGiven, numbersOfVerdict, CallConfigures, CallWrites}
+use Rattle.host.specs.Calls.{Tells, numbersOfRead, numbersOfWrite, numbersOfTranslation, actionIn, setting, noneFurther, configGiven, numbersOfVerdict, CallConfigures, CallWrites}
 use Rattle.guarantees.specs.MappingsInForce.{Led}
-use Rattle.guarantees.specs.Profiles.{standing, linesIn01, InBase, As01, StrictAs01, LedAlike, both-begin, both-write, CommonRecord, AnswerAlike}
+use Rattle.guarantees.specs.Alike.{standing}
+use Rattle.guarantees.specs.Profiles.{linesIn01, InBase, As01, StrictAs01, LedAlike, both-begin, both-write, AnswerAlike}
+use Rattle.guarantees.proofs.Alike.{told-alike, answer-alike}
 use Rattle.guarantees.proofs.Follows.{commands-follow}
 use Rattle.guarantees.proofs.InForce.{mappings-in-force}
 use Rattle.guarantees.proofs.AsWrites.{call-writes}
@@ -83,49 +83,8 @@ base-configured k b c e = e .answer ∙ base-configures k b
 
 -- BOTH PROFILES.
 
--- two calls that tell the same
-told-alike : (m n : List ℕ) → n ≡ m → (r r′ : ℕ) (told told′ : List ℕ) → Tells m r told → Tells n r′ told′ → (r′ ≡ r) × (told′ ≡ told)
-told-alike m n e r r′ told told′ p q = (q .1 ∙ (ap (λ l. getD l 0 0) e ∙ sym (p .1)), q .0 ∙ (e ∙ sym (p .0)))
-
-module _ (u : ItsState) (b : u .config .profile ≡ 0) (clear : u .registers .stalled ≡ false) where
-  abbrev v : ItsState
-  v = inProfile 1 u
-
-  pub lines-alike : (w : Window) (r : Record) → CommonRecord (standing u w) r → linesOf (standing v w) r ≡ linesOf (standing u w) r
-  unfolding writeOf
-  lines-alike w (CF k) c = refl
-  lines-alike w (GM x) c = refl
-  lines-alike w (RD offset width) c = rw (same-reads u b clear offset width)
-  lines-alike w (WR offset width value) c = rw (same-writes u b clear w lentRow offset width value c)
-  lines-alike w (TR d e) c = rw (same-translates u b clear d e)
-
-  alike : AnswerAlike u v
-  alike =
-      record {
-        same = refl;
-        reads = λ offset width r r′ e e′. e′ .answer ∙ (same-reads u b clear offset width ∙ sym (e .answer));
-        translates = λ d e r r′ q q′. q′ .answer ∙ (same-translates u b clear d e ∙ sym (q .answer));
-        writes = λ w row offset width value c r r′ left left′ e e′.
-            let same = same-writes u b clear w row offset width value c in (
-              e′ .answer ∙ (ap (λ o. o .written) same ∙ ap (λ x. record { unit = inProfile 1 (x .unit); answer = x .answer }) (sym (e .answer))),
-              e′ .row-left ∙ (ap (λ o. o .row) same ∙ sym (e .row-left)),
-            );
-        call-reads = λ offset width r r′ told told′ c c′. told-alike _ _ (ap numbersOfRead (same-reads u b clear offset width)) r r′ told told′ c c′;
-        call-translates = λ device event r r′ told told′ c c′.
-            told-alike _ _ (ap numbersOfTranslation (same-translates u b clear (record { 0 = device }) (record { 0 = event }))) r r′ told told′ c c′;
-        call-writes = λ w row offset width value c left left′ after after′ r r′ told told′ x x′.
-            let same = same-writes u b clear w (map actionIn row) offset width value c in
-            let t = told-alike _ _ (ap (λ o. numbersOfWrite (o .written .answer)) same) r r′ told told′ (x .told) (x′ .told) in (
-              x′ .unit ∙ (ap (λ o. o .written .unit) same ∙ ap (inProfile 1) (sym (x .unit))),
-              x′ .row ∙ (ap (λ l. rowWith l row) (made w (map actionIn row) offset width value c) ∙ sym (x .row)),
-              t .0,
-              t .1,
-            );
-        records = lines-alike;
-      }
-    where
-      made : (w : Window) (row : List ItsAction) (offset width value : ℕ) → CommonWrite w row u offset width value → actionsMade w row v offset width value ≡ actionsMade w row u offset width value
-      made w row offset width value c = same-made u b clear w row offset width value c
+pub alike : (u : ItsState) → u .config .profile ≡ 0 → u .registers .stalled ≡ false → AnswerAlike u (inProfile 1 u)
+alike u b clear = answer-alike (inProfile 1) _ u (same-reads u b clear) (same-translates u b clear) (same-writes u b clear) (same-made u b clear)
 
 led-alike : {k : ItsConfig} {u v : ItsState} → LedAlike k u v → (v ≡ inProfile 1 u) × (u .config .profile ≡ 0) × (u .registers .stalled ≡ false)
 led-alike {k} (both-begin c c′ e e′ a) =

@@ -27,21 +27,21 @@ use Rattle.model.specs.declared.Written.{Written}
 use Rattle.model.specs.Choose.{ifFound, isFound}
 use Rattle.model.specs.Arm.{_of_, CBASER·Valid, CWRITER·Retry, GITS-CWRITER, GITS-CREADR}
 use Rattle.model.specs.Refusal.{numberOf, writeNumbers}
-use Rattle.model.specs.With.{withRegisters, withStalled}
-use Rattle.model.specs.Profile.{Profile, base, strict, isStrict, profileOf}
+use Rattle.model.specs.With.{withRegisters, unitStalled}
+use Rattle.model.specs.Profile.{base, strict, isStrict, profileOf}
 use Rattle.model.specs.Config.{soundConfig, soundRing, soundUnit}
 use Rattle.model.specs.Queue.{Window, waiting, Stop, Ran, run, stall, held}
 use Rattle.model.specs.Register.{oneIf, isStalled, creadrValue, readPart}
 use Rattle.model.specs.Access.{checkRead}
 use Rattle.model.specs.Entry.{Outcome, configure, stores, readFrom, read}
 use Rattle.model.proofs.Cases.{cases, never, and-left, and-right}
-use Rattle.model.proofs.Profiles.{or-on, is-strict, is-base, may-clear, may-base, creadr-plain}
-use Rattle.model.proofs.Registers.{unread-stores, unread-reads, unread-translates}
+use Rattle.model.proofs.Profiles.{or-on, is-strict, is-base, may-clear, creadr-plain}
+use Rattle.model.proofs.Registers.{unread-reads, unread-translates, unread-writes, unread-made}
 use Rattle.model.proofs.Retry.{reader-whole}
 use Rattle.model.proofs.Ring.{reader-below}
 use Rattle.model.proofs.Runs.{RunKeeps, run-keeps}
 use Rattle.model.proofs.Answers.{answerFor, halted-answer}
-use Rattle.model.proofs.Stalled.{clears, isTaken, stored-stalled, base-stored, clears-when}
+use Rattle.model.proofs.Stalled.{isTaken, stored-stalled, base-stored, clears-when}
 use Rattle.model.proofs.Ways.{Stored, Way, checked, no-base, no-writer, quiet, based, off, over, ran, way}
 use Rattle.its.specs.Contracts.{Reads, Writes}
 use Rattle.guarantees.specs.Refusals.{at-entry, at-cwriter, at-command, givenAt, IfRefused}
@@ -56,7 +56,7 @@ use Rattle.guarantees.proofs.InForce.{mappings-in-force}
 use Rattle.guarantees.proofs.ByCalls.{led-by-calls}
 use Rattle.guarantees.proofs.Holding.{held-by-way, base-quiet}
 use Rattle.guarantees.proofs.Frames.{creadr-taken, creadr-high-taken, at-creadr, at-creadr-high}
-use Rattle.guarantees.proofs.SameTurn.{turn-same}
+use Rattle.guarantees.proofs.Alike.{answer-alike}
 
 -- 7 is the only refusal at CWRITER
 by-place : (why : Refusal) → givenAt why ≡ at-cwriter → WriterRefused ≡ why
@@ -346,10 +346,6 @@ module _ (u : ItsState) (sound : soundUnit u ≡ true) where
 -- BASE DOES NOT READ IT.
 pub stalled-unread : (u : ItsState) → u .config .profile ≡ 0 → (b : Bool) → Unread u b
 stalled-unread u is b =
-    record {
-      reads = λ offset width r r′ e e′. e′ .answer ∙ (unread-reads u b is offset width ∙ sym (e .answer));
-      translates = λ d e r r′ q q′. q′ .answer ∙ (unread-translates u b d e ∙ sym (q .answer));
-      stores-same = λ row offset width value. unread-stores u b row offset width value is;
-      may-run = λ r. may-base (u .config) r b (rw is);
-      turns = λ w. turn-same u (withStalled (u .registers) b) w refl refl;
-    }
+    answer-alike (λ v. unitStalled v b) _ u (unread-reads u b is) (unread-translates u b)
+    (λ w row offset width value _. unread-writes u b is w row offset width value)
+    (λ w row offset width value _. unread-made u b is w row offset width value)

@@ -25,7 +25,7 @@ use Rattle.trace.specs.Traced.{Traced}
 use Rattle.guarantees.specs.Traces.{readOn, recordsFrom, readAs, recordsIn, linesAfter, nextIn01, linesAfterIn01, traceLinesIn01, AllInBase, CommonAlong, inStrict, SameInStrict}
 use Rattle.guarantees.proofs.Follows.{commands-follow}
 use Rattle.guarantees.proofs.Stalled.{fresh-clear, base-bit}
-use Rattle.guarantees.proofs.Profiles.{lines-as-01, lines-alike}
+use Rattle.guarantees.proofs.Profiles.{lines-as-01, alike}
 
 -- In base.
 
@@ -104,9 +104,9 @@ strict-next : (s : Running) → Clear (s .unit) → (v : ItsState) → v ≡ inP
 unfolding writeOf
 strict-next s b v e (CF k) c d t x = (ap (λ z. line "CF" (verdictNumber z ∷ []) ∷ []) (same-verdict k ∙ ap (λ z. configure z .verdict) (sym (is-base k c))), both-configured k c (s .window) t x)
 strict-next s b v e (GM w) c d t x = (refl, (refl, inr (b, e)))
-strict-next s b v e (RD offset width) c d t x = (rw e (lines-alike (s .unit) (b .0) (b .1) (s .window) (RD offset width) d), (x, inr (b, e)))
+strict-next s b v e (RD offset width) c d t x = (rw e (alike (s .unit) (b .0) (b .1) .records (s .window) (RD offset width) d), (x, inr (b, e)))
 strict-next s b v e (WR offset width value) c d t x = (
-  rw (e, x) (lines-alike (s .unit) (b .0) (b .1) (s .window) (WR offset width value) d),
+  rw (e, x) (alike (s .unit) (b .0) (b .1) .records (s .window) (WR offset width value) d),
   (
     x,
     inr (
@@ -115,7 +115,7 @@ strict-next s b v e (WR offset width value) c d t x = (
     ),
   ),
 )
-strict-next s b v e (TR y z) c d t x = (rw e (lines-alike (s .unit) (b .0) (b .1) (s .window) (TR y z) d), (x, inr (b, e)))
+strict-next s b v e (TR y z) c d t x = (rw e (alike (s .unit) (b .0) (b .1) .records (s .window) (TR y z) d), (x, inr (b, e)))
 
 traces-beside : (s t : Running) → Beside s t → (rs : List Record) → AllInBase rs → CommonAlong s rs → linesAfter t (map inStrict rs) ≡ linesAfter s rs
 traces-beside s t b [] c d = refl

@@ -6,6 +6,7 @@ pub mod Kept
 pub mod Follows
 pub mod MappingsInForce
 pub mod CallsInForce
+pub mod Alike
 pub mod Profiles
 pub mod Stalled
 pub mod Retries

@@ -32,10 +32,7 @@ use Rattle.model.specs.Trace.{Record, CF, GM, RD, WR, TR, Running, line, readLi
 use Rattle.its.specs.Contracts.{Configures, Reads, Writes, Translates}
 use Rattle.host.specs.Calls.{Tells, numbersOfRead, numbersOfWrite, numbersOfTranslation, actionIn, CallReads, CallWrites, CallTranslates}
 use Rattle.guarantees.specs.MappingsInForce.{OfWritesTo}
-
--- the run of a trace that stands at this unit, with this window
-abbrev pub standing : ItsState → Window → Running
-standing u w = record { unit = u; window = w }
+use Rattle.guarantees.specs.Alike.{standing, MeantRecord, Alike}
 
 -- A BASE UNIT IS DOCUMENT 01'S, with A1 and A2 (model: In01).
 
@@ -102,29 +99,8 @@ pub data LedAlike (k : ItsConfig) : ItsState → ItsState → Type 0 where
 
 -- a record whose write, if it is one, is one on which they agree
 abbrev pub CommonRecord : Running → Record → Type 0
-CommonRecord s (CF k) = Unit {0}
-CommonRecord s (GM w) = Unit {0}
-CommonRecord s (RD offset width) = Unit {0}
-CommonRecord s (WR offset width value) = CommonWrite (s .window) lentRow (s .unit) offset width value
-CommonRecord s (TR d e) = Unit {0}
+CommonRecord s r = MeantRecord (λ w row offset width value. CommonWrite w row (s .unit) offset width value) (s .window) r
 
--- BOTH ANSWER ALIKE, the base unit u and the strict unit v.
-pub record AnswerAlike (u v : ItsState) : Type 0 where
-  -- they hold the same: registers, devices, collections and translations
-  pub same : v ≡ inProfile 1 u
-  pub reads : (offset width : ℕ) (r r′ : ReadAnswer) → Reads u offset width r → Reads v offset width r′ → r′ ≡ r
-  pub translates : (d : ItsDeviceId) (e : EventId) (r r′ : TranslateAnswer) → Translates u d e r → Translates v d e r′ → r′ ≡ r
-  -- a write on which they agree: the same answer and row, and the same unit but for the profile
-  pub writes : (w : Window) (row : List ItsAction) (offset width value : ℕ) → CommonWrite w row u offset width value →
-      (r r′ : Written) (left left′ : List ItsAction) → Writes w row u offset width value r left → Writes w row v offset width value r′ left′ →
-      (r′ ≡ record { unit = inProfile 1 (r .unit); answer = r .answer }) × (left′ ≡ left)
-  -- the C calls
-  pub call-reads : (offset width r r′ : ℕ) (told told′ : List ℕ) → CallReads u offset width r told → CallReads v offset width r′ told′ → (r′ ≡ r) × (told′ ≡ told)
-  pub call-translates : (device event r r′ : ℕ) (told told′ : List ℕ) → CallTranslates u device event r told → CallTranslates v device event r′ told′ →
-      (r′ ≡ r) × (told′ ≡ told)
-  pub call-writes : (w : Window) (row : List ℕ) (offset width value : ℕ) → CommonWrite w (map actionIn row) u offset width value →
-      (left left′ : ItsState) (after after′ : List ℕ) (r r′ : ℕ) (told told′ : List ℕ) →
-      CallWrites w row u offset width value left after r told → CallWrites w row v offset width value left′ after′ r′ told′ →
-      (left′ ≡ inProfile 1 left) × (after′ ≡ after) × (r′ ≡ r) × (told′ ≡ told)
-  -- and the records of a trace
-  pub records : (w : Window) (r : Record) → CommonRecord (standing u w) r → linesOf (standing v w) r ≡ linesOf (standing u w) r
+-- BOTH ANSWER ALIKE, the base unit u and the strict unit v: they hold the same but for the profile.
+abbrev pub AnswerAlike : ItsState → ItsState → Type 0
+AnswerAlike u v = Alike (inProfile 1) (λ w row offset width value. CommonWrite w row u offset width value) u v

@@ -9,18 +9,13 @@ use mathlib.Core.List.{List, [], _∷_}
 use mathlib.Core.Logic.{_⊎_}
 use lib.Dec.{leb, eqb}
 use lib.ListN.{getD}
-use Rattle.model.specs.declared.ItsDeviceId.{ItsDeviceId}
-use Rattle.model.specs.declared.EventId.{EventId}
 use Rattle.model.specs.declared.ItsConfig.{ItsConfig}
-use Rattle.model.specs.declared.ItsRegisters.{ItsRegisters}
 use Rattle.model.specs.declared.ItsState.{ItsState}
-use Rattle.model.specs.declared.ItsAction.{ItsAction}
 use Rattle.model.specs.declared.Command.{Command}
 use Rattle.model.specs.declared.Refusal.{Refusal}
 use Rattle.model.specs.declared.Refusal.the-variants.{BudgetExceeded}
 use Rattle.model.specs.declared.ReadAnswer.{ReadAnswer}
 use Rattle.model.specs.declared.ReadAnswer.the-variants.{Value}
-use Rattle.model.specs.declared.TranslateAnswer.{TranslateAnswer}
 use Rattle.model.specs.declared.WriteAnswer.{WriteAnswer}
 use Rattle.model.specs.declared.WriteAnswer.the-variants.{Taken, NotTaken}
 use Rattle.model.specs.declared.Written.{Written}
@@ -28,11 +23,9 @@ use Rattle.model.specs.Choose.{if_then_else_}
 use Rattle.model.specs.Arm.{_of_, CWRITER·Retry, GITS-CBASER, GITS-CWRITER, GITS-CREADR}
 use Rattle.model.specs.Profile.{base, strict, profileOf}
 use Rattle.model.specs.Register.{liesIn, oneIf}
-use Rattle.model.specs.With.{withStalled, unitStalled}
-use Rattle.model.specs.Queue.{Window, turn, mayRun}
-use Rattle.model.specs.Writing.{storedStalled}
-use Rattle.model.specs.Entry.{stores}
-use Rattle.its.specs.Contracts.{Reads, Translates}
+use Rattle.model.specs.With.{unitStalled}
+use Rattle.its.specs.Contracts.{Reads}
+use Rattle.guarantees.specs.Alike.{Alike}
 use Rattle.guarantees.specs.Refusals.{Given, at-entry, at-cwriter, at-budget, at-command, at-output, givenAt, IfRefused}
 use Rattle.guarantees.specs.MappingsInForce.{Led, begins, a-read, a-translation, a-write}
 use Rattle.guarantees.specs.CallsInForce.{LedByCalls, its-configure, its-read, its-translate, its-write}
@@ -144,16 +137,10 @@ trailTold (its-read l offset width r told c) = trailTold l
 trailTold (its-translate l device event r told c) = trailTold l
 trailTold (its-write {u = u} l w row offset width value left after r told c) = markTold u offset value told ∷ trailTold l
 
--- BASE DOES NOT READ IT: b stands in the place of the bit, of a unit that may be built by hand.
-pub record Unread (u : ItsState) (b : Bool) : Type 0 where
-  -- every read and translation is the same
-  pub reads : (offset width : ℕ) (r r′ : ReadAnswer) → Reads u offset width r → Reads (unitStalled u b) offset width r′ → r′ ≡ r
-  pub translates : (d : ItsDeviceId) (e : EventId) (r r′ : TranslateAnswer) → Translates u d e r → Translates (unitStalled u b) d e r′ → r′ ≡ r
-  -- a write stores the same, lets the queue run alike and answers alike where it does not; the bit stays
-  pub stores-same : (row : List ItsAction) (offset width value : ℕ) → stores row (unitStalled u b) offset width value ≡ storedStalled (stores row u offset width value) b
-  -- the queue may run alike, and the command on which CREADR stands has the same turn
-  pub may-run : (r : ItsRegisters) → mayRun (u .config) (withStalled r b) ≡ mayRun (u .config) r
-  pub turns : (w : Window) → turn w (unitStalled u b) ≡ turn w u
+-- BASE DOES NOT READ IT: with b in the place of the bit, in a unit that may be built by hand, every read, translation and write, by value and by the C calls, is
+-- the same; and b stays there.
+abbrev pub Unread : ItsState → Bool → Type 0
+Unread u b = Alike (λ v. unitStalled v b) (λ w row offset width value. Unit {0}) u (unitStalled u b)
 
 -- STALLED IS SHOWN, of a unit whose configuration and ring are sound.
 pub record StalledShown (u : ItsState) : Type 0 where

@@ -4,7 +4,7 @@ use Prim.Native.Nat.{ℕ, zero, suc, _-_, _≤_, _<_}
 use native.Mathlib.Omega.{arith}
 use mathlib.Core.Path.{_≡_, refl, sym, ap, ap₂, _∙_}
 use mathlib.Core.Bool.{true, false}
-use mathlib.Core.List.{List, []}
+use mathlib.Core.List.{List}
 use mathlib.Core.Option.{none, some}
 use lib.ListN.{length}
 use lib.Dec.{leb, eqb}
@@ -22,7 +22,6 @@ use Rattle.model.specs.declared.Command.{Command}
 use Rattle.model.specs.declared.Refusal.the-variants.{Unsound}
 use Rattle.model.specs.declared.Verdict.{Verdict}
 use Rattle.model.specs.declared.Verdict.the-variants.{Accepted, Refused}
-use Rattle.model.specs.Choose.{if_then_else_}
 use Rattle.model.specs.Arm.{_of_, _in-place_, CBASER·Valid, CWRITER·Retry, GITS-CWRITER}
 use Rattle.model.specs.With.{withRegisters, withProfile}
 use Rattle.model.specs.Config.{sizesIn01, soundConfig, soundRing}
@@ -32,14 +31,14 @@ use Rattle.model.specs.Passed.{commandHere}
 use Rattle.model.specs.Register.{registerAt, creadrValue, writtenBy, valueWritten}
 use Rattle.model.specs.Access.{checkAccess, checkRead, checkWrite, ifAccepted}
 use Rattle.model.specs.Writing.{refusing, toCbaser, retries, offered, toCwriter, writeRegister, registerWrite}
-use Rattle.model.specs.Entry.{Outcome, afterRun, readFrom, read, translate, running, concluded, stores, configure, write}
+use Rattle.model.specs.Entry.{afterRun, readFrom, read, translate, running, concluded, stores, configure, write}
 use Rattle.model.specs.In01.{valueIn01, readIn01, writeRegisterIn01, storesIn01}
-use Rattle.model.specs.Common.{inProfile, Common, CommonRun, CommonQueue, CommonWrite}
+use Rattle.model.specs.Common.{inProfile, Common, CommonRun, CommonWrite}
 use Rattle.model.proofs.Cases.{cases, never, and-right}
 use Rattle.model.proofs.Answers.{queue-runs, queue-over, queue-off}
-use Rattle.model.proofs.AnyProfile.{same-actions, same-turn, same-carried, ranIn, any-sizes, any-reads, any-stores}
+use Rattle.model.proofs.AnyProfile.{same-actions, same-turn, same-carried, ranIn, outcomeIn, any-sizes, any-reads, any-stores}
 use Rattle.model.proofs.Stalled.{base-stored}
-use Rattle.model.proofs.Profiles.{Plain, plain-common, turn-in-01, carried-in-01, base-known, sizes-only, off-may, valid-may, creadr-plain, halting-none, base-reads, base-stores}
+use Rattle.model.proofs.Profiles.{madeBy, Plain, plain-common, turn-in-01, carried-in-01, base-known, sizes-only, off-may, valid-may, creadr-plain, halting-none, base-reads, base-stores}
 use Rattle.model.proofs.Retry.{retry-of, checks-taken}
 
 -- a command on which the profiles agree is one for both
@@ -49,20 +48,20 @@ same-common m u x c = record { small = c .small; not-again = c .not-again }
 module _ (m : ℕ) (w : Window) where
   -- one step: both units meet the same command, of which 01 says all
   common-step : (n : ℕ) (u : ItsState) → ((x : Command) → commandHere w (u .registers) ≡ some x → Common u x) →
-      ((x : Command) → turn w u ≡ passes x → run w n (inProfile m (carryOut u x)) ≡ ranIn m (run w n (carryOut u x))) →
-      (t : Turn) → turn w u ≡ t → goOn (inProfile m u) (turn w (inProfile m u)) (run w n) ≡ ranIn m (goOn u (turn w u) (run w n))
+      ((x : Command) → turn w u ≡ passes x → run w n (inProfile m (carryOut u x)) ≡ ranIn (inProfile m) (run w n (carryOut u x))) →
+      (t : Turn) → turn w u ≡ t → goOn (inProfile m u) (turn w (inProfile m u)) (run w n) ≡ ranIn (inProfile m) (goOn u (turn w u) (run w n))
   common-step n u c rest t e =
       let here : (y : Command) → commandHere w (u .registers) ≡ some y → Plain u y = λ y q. plain-common u y (c y q) in
       let there : (y : Command) → commandHere w (u .registers) ≡ some y → Plain (inProfile m u) y = λ y q. plain-common (inProfile m u) y (same-common m u y (c y q)) in
-      let turned : turn w (inProfile m u) ≡ t = turn-in-01 w (inProfile m u) there ∙ (same-turn m u w ∙ (sym (turn-in-01 w u here) ∙ e)) in
+      let turned : turn w (inProfile m u) ≡ t = turn-in-01 w (inProfile m u) there ∙ (same-turn (λ _. m) (λ s. s) u w ∙ (sym (turn-in-01 w u here) ∙ e)) in
       rw (turned, e) (by-turn t e turned here there)
     where
       by-turn : (t : Turn) → turn w u ≡ t → turn w (inProfile m u) ≡ t → ((y : Command) → commandHere w (u .registers) ≡ some y → Plain u y) →
-          ((y : Command) → commandHere w (u .registers) ≡ some y → Plain (inProfile m u) y) → goOn (inProfile m u) t (run w n) ≡ ranIn m (goOn u t (run w n))
+          ((y : Command) → commandHere w (u .registers) ≡ some y → Plain (inProfile m u) y) → goOn (inProfile m u) t (run w n) ≡ ranIn (inProfile m) (goOn u t (run w n))
       by-turn (passes x) e turned here there =
           let carried : carryOut (inProfile m u) x ≡ inProfile m (carryOut u x) =
-          carried-in-01 w (inProfile m u) there x turned ∙ (same-carried m u x ∙ ap (inProfile m) (sym (carried-in-01 w u here x e))) in
-          ap₂ (λ l v. andThen l (run w n v)) (same-actions m u x) carried ∙ ap (andThen (actionsOf u x)) (rest x e)
+          carried-in-01 w (inProfile m u) there x turned ∙ (same-carried (λ _. m) (λ s. s) u x ∙ ap (inProfile m) (sym (carried-in-01 w u here x e))) in
+          ap₂ (λ l v. andThen l (run w n v)) (same-actions (λ _. m) (λ s. s) u x) carried ∙ ap (andThen (actionsOf u x)) (rest x e)
       by-turn (stays r opcode) e turned here there = refl
 
   -- the commands met after the first
@@ -72,7 +71,7 @@ module _ (m : ℕ) (w : Window) where
       let q′ : commandHere w (run w (suc i) u .unit .registers) ≡ some y = ap (λ v. commandHere w (v .registers)) same ∙ q in
       rw same at (c (suc i) (omega arith) y q′)
 
-  common-run : (n : ℕ) (u : ItsState) → CommonRun w n u → run w n (inProfile m u) ≡ ranIn m (run w n u)
+  common-run : (n : ℕ) (u : ItsState) → CommonRun w n u → run w n (inProfile m u) ≡ ranIn (inProfile m) (run w n u)
   common-run zero u c = refl
   common-run (suc n) u c = common-step n u (c 0 (omega arith)) (λ x e. common-run n (carryOut u x) (later n u c x e)) (turn w u) refl
 
@@ -97,7 +96,7 @@ module _ (u : ItsState) (b : u .config .profile ≡ 0) (clear : u .registers .st
   plain-reads offset width = rw (sizes-only (v .config) refl, plain-creadr)
 
   pub same-reads : (offset width : ℕ) → read v offset width ≡ read u offset width
-  same-reads offset width = plain-reads offset width ∙ (any-reads 1 u offset width ∙ sym (base-reads u b offset width))
+  same-reads offset width = plain-reads offset width ∙ (any-reads (λ _. 1) (λ s. s) u offset width ∙ sym (base-reads u b offset width))
 
   pub same-translates : (d : ItsDeviceId) (e : EventId) → translate v d e ≡ translate u d e
   unfolding translate deliveryIn
@@ -141,7 +140,7 @@ module _ (u : ItsState) (b : u .config .profile ≡ 0) (clear : u .registers .st
     plain-stores = by-verdict (checkWrite (v .config) (v .registers) (length row) offset width) refl ∙ rw (sizes-only (v .config) refl)
 
     pub same-stores : stores row v offset width value ≡ stores row u offset width value
-    same-stores = plain-stores ∙ (any-stores 1 u row offset width value ∙ sym (base-stores u b row offset width value))
+    same-stores = plain-stores ∙ (any-stores (λ _. 1) (λ s. s) u row offset width value ∙ sym (base-stores u b row offset width value))
 
   -- the run
   module _ (w : Window) (r : ItsRegisters) where
@@ -159,11 +158,11 @@ module _ (u : ItsState) (b : u .config .profile ≡ 0) (clear : u .registers .st
     same-queue : (r .enabled ≡ true → 0 < waiting r → CBASER·Valid of r .cbaser ≡ 1) →
         (r .enabled ≡ true → waiting r ≤ u .config .«command_budget» → CommonRun w (waiting r) u₁) →
         (r .enabled ≡ true → waiting r ≤ u .config .«command_budget» → run w (waiting r) u₁ .stopped ≡ none) → r .stalled ≡ false →
-        runQueue w (inProfile 1 u₁) ≡ ranIn 1 (runQueue w u₁)
+        runQueue w (inProfile 1 u₁) ≡ ranIn (inProfile 1) (runQueue w u₁)
     same-queue bit63 c goes clear =
         cases (r .enabled)
         (λ on. cases (eqb (waiting r) 0)
-        (λ z. none-waits (inProfile 1 u₁) refl (eqb-true (waiting r) 0 z) ∙ sym (ap (ranIn 1) (none-waits u₁ refl (eqb-true (waiting r) 0 z))))
+        (λ z. none-waits (inProfile 1 u₁) refl (eqb-true (waiting r) 0 z) ∙ sym (ap (ranIn (inProfile 1)) (none-waits u₁ refl (eqb-true (waiting r) 0 z))))
         (λ n.
         let some-wait : waiting r ≡ 0 → ⊥ = eqb-false (waiting r) 0 n in
         let valid = bit63 on (by-size (waiting r) some-wait) in
@@ -173,14 +172,11 @@ module _ (u : ItsState) (b : u .config .profile ≡ 0) (clear : u .registers .st
         let none-stopped = goes on (leb-true _ _ l) in
         queue-runs w (inProfile 1 u₁) (valid-may (v .config) r on valid clear) l
         ∙ (halting-none (run w (waiting r) (inProfile 1 u₁)) (ap (λ q. q .stopped) same ∙ none-stopped)
-        ∙ (same ∙ sym (ap (ranIn 1) (queue-runs w u₁ (base-runs on) l ∙ halting-none (run w (waiting r) u₁) none-stopped)))))
-        (λ l. queue-over w (inProfile 1 u₁) (valid-may (v .config) r on valid clear) l ∙ sym (ap (ranIn 1) (queue-over w u₁ (base-runs on) l)))))
-        (λ off. queue-off w (inProfile 1 u₁) (off-may (v .config) r off) ∙ sym (ap (ranIn 1) (queue-off w u₁ (off-may (u .config) r off))))
+        ∙ (same ∙ sym (ap (ranIn (inProfile 1)) (queue-runs w u₁ (base-runs on) l ∙ halting-none (run w (waiting r) u₁) none-stopped)))))
+        (λ l. queue-over w (inProfile 1 u₁) (valid-may (v .config) r on valid clear) l ∙ sym (ap (ranIn (inProfile 1)) (queue-over w u₁ (base-runs on) l)))))
+        (λ off. queue-off w (inProfile 1 u₁) (off-may (v .config) r off) ∙ sym (ap (ranIn (inProfile 1)) (queue-off w u₁ (off-may (u .config) r off))))
 
   -- a write: the same answer and row, and the unit with the strict profile
-  abbrev pub strictly : Outcome → Outcome
-  strictly o = record { written = record { unit = inProfile 1 (o .written .unit); answer = o .written .answer }; row = o .row }
-
   module _ (w : Window) (row : List ItsAction) (offset width value : ℕ) (c : CommonWrite w row u offset width value) where
     abbrev s : RegisterWrite
     s = stores row u offset width value
@@ -189,20 +185,19 @@ module _ (u : ItsState) (b : u .config .profile ≡ 0) (clear : u .registers .st
     stays-clear : s .registers .stalled ≡ false
     stays-clear = base-stored u offset width value row (rw b) ∙ clear
 
-    same-run : s .runs ≡ true → runQueue w (withRegisters v (s .registers)) ≡ ranIn 1 (runQueue w (withRegisters u (s .registers)))
+    same-run : s .runs ≡ true → runQueue w (withRegisters v (s .registers)) ≡ ranIn (inProfile 1) (runQueue w (withRegisters u (s .registers)))
     same-run on = same-queue w (s .registers) (c .queue .bit63 on) (c .queue .commands on) (c .queue .none-refused on) stays-clear
 
-    same-end : concluded w row v s ≡ strictly (concluded w row u s)
+    same-end : concluded w row v s ≡ outcomeIn (inProfile 1) (concluded w row u s)
     unfolding running
     same-end = cases (s .runs) (λ on. rw on (ap (λ q. afterRun q row) (same-run on))) (λ off. rw off)
 
-    pub same-writes : write w row v offset width value ≡ strictly (write w row u offset width value)
+    pub same-writes : write w row v offset width value ≡ outcomeIn (inProfile 1) (write w row u offset width value)
     unfolding write
     same-writes = rw (same-stores row offset width value (c .no-retry)) same-end
 
     -- and the same actions
-    pub same-made : (if stores row v offset width value .runs then runQueue w (withRegisters v (stores row v offset width value .registers)) .actions else [])
-        ≡ (if s .runs then runQueue w (withRegisters u (s .registers)) .actions else [])
+    pub same-made : madeBy (runQueue w) v (stores row v offset width value) ≡ madeBy (runQueue w) u s
     same-made =
         rw (same-stores row offset width value (c .no-retry)) (cases (s .runs) (λ on. rw on (ap (λ q. q .actions) (same-run on))) (λ off. rw off))
 

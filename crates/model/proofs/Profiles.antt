@@ -4,7 +4,7 @@ use Prim.Native.Nat.{ℕ, zero, suc, _+_, _^_, _≤_, _<_}
 use native.Mathlib.Omega.{arith}
 use mathlib.Core.Path.{_≡_, refl, sym, ap, _∙_}
 use mathlib.Core.Bool.{Bool, true, false, _&&_, _||_, not}
-use mathlib.Core.List.{List}
+use mathlib.Core.List.{List, []}
 use mathlib.Core.Option.{Option, none, some}
 use lib.Dec.{leb, ltb, eqb}
 use borrow.Author.Tests.{le-ltb, ltb-true}
@@ -23,7 +23,7 @@ use Rattle.model.specs.declared.Decoded.{Decoded}
 use Rattle.model.specs.declared.Decoded.the-variants.{Known, Unknown}
 use Rattle.model.specs.declared.Refusal.the-variants.{NotInWindow, DeviceTooLarge}
 use Rattle.model.specs.declared.Verdict.the-variants.{Refused}
-use Rattle.model.specs.Choose.{_or_then_, ifFound, whenFound}
+use Rattle.model.specs.Choose.{if_then_else_, _or_then_, ifFound, whenFound}
 use Rattle.model.specs.Arm.{_of_, TYPER·Devbits, CBASER·Valid}
 use Rattle.model.specs.With.{withRegisters, withStalled, withReader}
 use Rattle.model.specs.Profile.{base, strict, isProfile, isStrict, profileOf}
@@ -243,6 +243,10 @@ sizes-only k p = rw p (and-on (sizesIn01 k))
 pub base-known : (k : ItsConfig) → k .profile ≡ 0 → isProfile (k .profile) ≡ true
 base-known k b = rw b
 
+-- the actions of a write, by what its run comes to
+abbrev pub madeBy : (ItsState → Ran) → ItsState → RegisterWrite → List ItsAction
+madeBy q u s = if s .runs then q (withRegisters u (s .registers)) .actions else []
+
 module _ (u : ItsState) (b : u .config .profile ≡ 0) where
   not-strict : isStrict (u .config .profile) ≡ false
   not-strict = rw b
@@ -283,6 +287,12 @@ module _ (u : ItsState) (b : u .config .profile ≡ 0) where
   pub base-writes : (w : Window) (row : List ItsAction) (offset width value : ℕ) → write w row u offset width value ≡ writeIn01 w row u offset width value
   unfolding write writeIn01
   base-writes w row offset width value = rw (base-stores row offset width value) (base-concludes w row (storesIn01 row u offset width value))
+
+  pub base-made : (w : Window) (row : List ItsAction) (offset width value : ℕ) →
+      madeBy (runQueue w) u (stores row u offset width value) ≡ madeBy (runQueueIn01 w) u (storesIn01 row u offset width value)
+  base-made w row offset width value =
+      let s = storesIn01 row u offset width value in
+      rw (base-stores row offset width value, base-queue w (withRegisters u (s .registers)) not-strict)
 
 pub base-configures : (k : ItsConfig) → k .profile ≡ 0 → configure k ≡ configureIn01 k
 unfolding configure configureIn01

@@ -7,8 +7,8 @@ use mathlib.Core.Path.{_≡_, refl, sym, ap, _∙_}
 use mathlib.Core.Bool.{Bool, true, false, _&&_, not}
 use mathlib.Core.List.{List}
 use lib.ListN.{length}
-use lib.Dec.{leb, eqb}
-use borrow.Author.Tests.{eqb-true, eqb-false, ne-eqb}
+use lib.Dec.{eqb}
+use borrow.Author.Tests.{eqb-true, eqb-false}
 use Rattle.model.specs.declared.ItsDeviceId.{ItsDeviceId}
 use Rattle.model.specs.declared.EventId.{EventId}
 use Rattle.model.specs.declared.ItsConfig.{ItsConfig}
@@ -18,24 +18,25 @@ use Rattle.model.specs.declared.ItsAction.{ItsAction}
 use Rattle.model.specs.declared.Register.{Register}
 use Rattle.model.specs.declared.Register.the-variants.{Ctlr, Iidr, Typer, Cbaser, Cwriter, Creadr, Baser, Reserved}
 use Rattle.model.specs.declared.RegisterWrite.{RegisterWrite}
-use Rattle.model.specs.declared.Refusal.the-variants.{Unsound, RowTooShort, BaseZero, WriterRefused}
+use Rattle.model.specs.declared.Refusal.the-variants.{Unsound, BaseZero, WriterRefused}
 use Rattle.model.specs.declared.ReadAnswer.the-variants.{Value, NoValue}
 use Rattle.model.specs.declared.Verdict.{Verdict}
 use Rattle.model.specs.declared.Verdict.the-variants.{Accepted, Refused}
 use Rattle.model.specs.Choose.{if_then_else_, _or_then_}
 use Rattle.model.specs.Arm.{_of_, _in-place_, _holding_, without, low-half, high-half, CBASER·Valid, CWRITER·Retry, GITS-CTLR, GITS-IIDR, GITS-TYPER, GITS-CBASER, GITS-CWRITER, GITS-CREADR}
-use Rattle.model.specs.With.{withStalled, withWriter, unitStalled}
+use Rattle.model.specs.With.{withWriter, unitStalled}
 use Rattle.model.specs.Profile.{isProfile, isStrict}
 use Rattle.model.specs.Config.{queueBase, soundConfig, soundRing, soundUnit}
 use Rattle.model.specs.Step.{deliveryIn}
-use Rattle.model.specs.Queue.{held, mayRun}
+use Rattle.model.specs.Queue.{Window, held, mayRun, runQueue}
 use Rattle.model.specs.Register.{liesIn, isBaser, registerAt, isWide, readPart, merged, valueOf, writtenBy, valueWritten}
 use Rattle.model.specs.Access.{checkAccess, checkRead, checkWrite, ifAccepted}
-use Rattle.model.specs.Writing.{refusing, storing, rebasing, going, clearing, toCtlr, withCbaser, storingBase, toCbaser, retries, offered, writerTaken, writerAccepted, storingWriter, writerOf, toCwriter, withBaser, toBaser, writeRegister, registerWrite, storedStalled, withoutRetry}
-use Rattle.model.specs.Entry.{readFrom, read, translate, stores}
+use Rattle.model.specs.Writing.{refusing, storing, rebasing, going, clearing, toCtlr, withCbaser, toCbaser, retries, offered, writerAccepted, writerOf, toCwriter, withBaser, toBaser, writeRegister, registerWrite, storedStalled, withoutRetry}
+use Rattle.model.specs.Entry.{readFrom, read, translate, stores, write}
 use Rattle.model.specs.In01.{soundIn01, valueIn01, readIn01, translateIn01, writeRegisterIn01, storesIn01}
 use Rattle.model.proofs.Cases.{cases, never, and-right}
-use Rattle.model.proofs.Profiles.{sizes-only, base-reads, base-stores}
+use Rattle.model.proofs.Profiles.{madeBy, sizes-only, base-reads, base-writes, base-made}
+use Rattle.model.proofs.AnyProfile.{outcomeIn, any-reads, any-writes, any-made}
 use Rattle.model.proofs.Retry.{Half, whole, low, high, half, writer-whole, elsewhere, checks-taken}
 use Rattle.model.proofs.Stalled.{not-writer}
 
@@ -189,64 +190,32 @@ module _ (u : ItsState) (y : isStrict (u .config .profile) ≡ true) where
 
 -- STALLED MAKES NO DIFFERENCE, in base; and to no unit whether it is sound.
 module _ (u : ItsState) (b : Bool) where
-  pub same-sound : soundUnit (unitStalled u b) ≡ soundUnit u
+  abbrev other : ItsState → ItsState
+  other v = unitStalled v b
+
+  pub same-sound : soundUnit (other u) ≡ soundUnit u
   unfolding soundRing
   same-sound = refl
 
-  same-register : (value : ℕ) (n : Register) → writeRegisterIn01 (withStalled (u .registers) b) value n ≡ storedStalled (writeRegisterIn01 (u .registers) value n) b
-  unfolding toCtlr toBaser writerAccepted
-  same-register value Ctlr = refl
-  same-register value Iidr = refl
-  same-register value Typer = refl
-  same-register value Cbaser = cases (u .registers .enabled) (λ y. rw y) (λ n. rw n (cases (not (eqb (queueBase value) 0)) (λ y. rw y) (λ m. rw m)))
-  same-register value Cwriter = cases (writerAccepted (u .registers) (writerTaken (u .registers) value)) (λ y. rw y) (λ n. rw n)
-  same-register value Creadr = refl
-  same-register value (Baser n) = cases (u .registers .enabled) (λ y. rw y) (λ m. rw m)
-  same-register value Reserved = refl
-
-  same-value-in-01 : (n : Register) → valueIn01 (unitStalled u b) n ≡ valueIn01 u n
-  same-value-in-01 Ctlr = refl
-  same-value-in-01 Iidr = refl
-  same-value-in-01 Typer = refl
-  same-value-in-01 Cbaser = refl
-  same-value-in-01 Cwriter = refl
-  same-value-in-01 Creadr = refl
-  same-value-in-01 (Baser n) = refl
-  same-value-in-01 Reserved = refl
-
-  module _ (row : List ItsAction) (offset width value : ℕ) where
-    same-written : (n : Register) → writtenBy (valueIn01 (unitStalled u b)) offset width value n ≡ writtenBy (valueIn01 u) offset width value n
-    same-written n = ap (λ v. if isWide n then merged offset width v value else value) (same-value-in-01 n)
-
-    by-verdict-in-01 : (d : Verdict) (n : Register) →
-        ifAccepted d (writeRegisterIn01 (withStalled (u .registers) b) (writtenBy (valueIn01 (unitStalled u b)) offset width value n) n) (refusing (withStalled (u .registers) b) 0)
-        ≡ storedStalled (ifAccepted d (writeRegisterIn01 (u .registers) (writtenBy (valueIn01 u) offset width value n) n) (refusing (u .registers) 0)) b
-    by-verdict-in-01 Accepted n = rw (same-written n) (same-register (writtenBy (valueIn01 u) offset width value n) n)
-    by-verdict-in-01 (Refused why) n = refl
-
-    same-in-01 : storesIn01 row (unitStalled u b) offset width value ≡ storedStalled (storesIn01 row u offset width value) b
-    unfolding storesIn01 soundRing
-    same-in-01 =
-        by-verdict-in-01
-        (soundIn01 (u .config) (u .registers) or Refused Unsound then
-        leb (u .config .«command_budget») (length row) or Refused RowTooShort then
-        checkAccess (u .config) offset width)
-        (registerAt offset)
-
-    pub unread-stores : u .config .profile ≡ 0 → stores row (unitStalled u b) offset width value ≡ storedStalled (stores row u offset width value) b
-    unread-stores base =
-        base-stores (unitStalled u b) base row offset width value ∙ (same-in-01 ∙ ap (λ s. storedStalled s b) (sym (base-stores u base row offset width value)))
-
-  module _ (base : u .config .profile ≡ 0) where
-    same-read : (offset width : ℕ) → readIn01 (unitStalled u b) offset width ≡ readIn01 u offset width
-    unfolding readIn01 soundRing
-    same-read offset width =
-        ap (λ z. ifAccepted (soundIn01 (u .config) (u .registers) or Refused Unsound then checkAccess (u .config) offset width)
-        (Value (if isWide (registerAt offset) then readPart offset width z else z)) NoValue) (same-value-in-01 (registerAt offset))
-
-    pub unread-reads : (offset width : ℕ) → read (unitStalled u b) offset width ≡ read u offset width
-    unread-reads offset width = base-reads (unitStalled u b) base offset width ∙ (same-read offset width ∙ sym (base-reads u base offset width))
-
-  pub unread-translates : (d : ItsDeviceId) (e : EventId) → translate (unitStalled u b) d e ≡ translate u d e
+  pub unread-translates : (d : ItsDeviceId) (e : EventId) → translate (other u) d e ≡ translate u d e
   unfolding translate soundRing deliveryIn
   unread-translates d e = refl
+
+  module _ (base : u .config .profile ≡ 0) where
+    pub unread-reads : (offset width : ℕ) → read (other u) offset width ≡ read u offset width
+    unread-reads offset width =
+        base-reads (other u) base offset width ∙ (any-reads (λ p. p) (λ _. b) u offset width ∙ sym (base-reads u base offset width))
+
+    module _ (w : Window) (row : List ItsAction) (offset width value : ℕ) where
+      pub unread-writes : write w row (other u) offset width value ≡ outcomeIn other (write w row u offset width value)
+      unread-writes =
+          base-writes (other u) base w row offset width value
+          ∙ (any-writes (λ p. p) (λ _. b) w row u offset width value
+          ∙ ap (outcomeIn other) (sym (base-writes u base w row offset width value)))
+
+      -- and the same actions are made
+      pub unread-made : madeBy (runQueue w) (other u) (stores row (other u) offset width value) ≡ madeBy (runQueue w) u (stores row u offset width value)
+      unread-made =
+          base-made (other u) base w row offset width value
+          ∙ (any-made (λ p. p) (λ _. b) w row u offset width value
+          ∙ sym (base-made u base w row offset width value))
