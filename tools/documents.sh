@@ -1,7 +1,8 @@
 #!/bin/sh
 # The documents against the files that they speak of; nothing is built. One line each:
 #   docs/SENTENCES.md     no empty cell, and every definition, proof, function, theorem and must-fail edit that it names is there
-#   docs/GUARANTEES.md    every definition and proof that it names is there, and its must-fail edits are those of crates/guarantees
+#   docs/GUARANTEES.md    every definition and proof that it names is there, and its must-fail edits are those of crates/guarantees; the public entries that
+#                         it names are there without a `requires`, and the C calls among them are all that there are
 #   docs/DIFFERENCES.md   every entry of its tables is there with all its parts, under the same title and in order, in both parts; page one names those
 #                         that can file a recording wrongly, and no other; each trace on the page is the file in oracle/traces, each run of lines
 #                         the file in crates/replay/data/recorded; every difference-* file is on the page
@@ -88,6 +89,22 @@ def sentences(page, wrong):
     return f"{len(rows)} rows, and every name in them is there"
 
 
+def entries(page, wrong):
+    """The public entries that the page names, in the files that it names, and every C call: they are the same, and none has a `requires`."""
+    row = (re.findall(r"No public entry has a `requires`: (.*)", page) or [""])[0]
+    named = {name for name in quoted(row) if "/" not in name}
+    found = set()
+    for path in glob.glob("crates/*/src/**/*.rt", recursive=True):
+        # a head ends with the brace that stands alone
+        for head, call, name in re.findall(r'^(pub (extern "C" )?fn (\w+).*?)^\{$', read(path), re.M | re.S):
+            if call or name in named and f"`{path}`" in row:
+                found.add(name)
+                "requires {" in head and wrong(f"{path}: {name} has a `requires`")
+    for name in sorted(named ^ found):
+        wrong(f"{name} is no public entry" if name in named else f"it does not name the C call {name}")
+    return len(found)
+
+
 def guarantees(page, wrong):
     """`File.name` and `proofs/File.name` are of crates/guarantees, `CRATE: File.name` of another."""
     count = 0
@@ -104,7 +121,7 @@ def guarantees(page, wrong):
     tried = re.search("^## Try.*", page, re.M | re.S)
     for label in rows.findall(tried[0] if tried else ""):
         label in edits or wrong(f"no must-fail edit {label}")
-    return f"{count + len(edits)} names, and each is there"
+    return f"{count + len(edits)} names, and each is there; {entries(page, wrong)} public entries, none with a `requires`"
 
 
 def differences(page, wrong):

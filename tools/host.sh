@@ -38,8 +38,9 @@ symbols() {
     readelf -sW "$1" | awk '$5 == "GLOBAL" && $7 == "UND" && $8 != "" { print $8 }' | sort -u
 }
 given() {
-    readelf -sW "$1" | awk '$5 == "GLOBAL" && $7 != "UND" && $8 ~ /^its_/ { print $8 }' | sort -u
+    readelf -sW "$1" | awk '($5 == "GLOBAL" || $5 == "WEAK") && $7 != "UND" { print $8 }' | sort -u
 }
+# needs WHAT ARCHIVE CALLS: it gives these calls and no other function, so that no host can call one that asks something of its caller
 needs() {
     for symbol in $(symbols "$2"); do
         case $symbol in
@@ -48,14 +49,16 @@ needs() {
         esac
     done
     calls=$(given "$2" | tr '\n' ' ')
-    [ "$calls" = "its_configure its_read its_translate its_write " ] || { say "$1 gives $calls" && return 1; }
+    [ "$calls" = "$3 " ] || { say "$1 gives $calls" && return 1; }
     say "$1 gives ${calls}and needs $(symbols "$2" | tr '\n' ' ')"
 }
-needs "the archive for this machine" "$native"
+calls_for_hosts='its_configure its_read its_translate its_write'
+needs "the archive for this machine" "$native" "$calls_for_hosts"
 linux=$(archive --target aarch64)
-needs "the archive for Linux on Arm" "$linux"
+needs "the archive for Linux on Arm" "$linux" "$calls_for_hosts"
 bare=$(archive --target aarch64-none)
-needs "the archive for a bare Arm machine" "$bare"
+needs "the archive for a bare Arm machine" "$bare" "$calls_for_hosts"
+needs "the archive for traces" "$(tools/archive.sh trace | tail -n 1)" its_trace
 
 # How many instructions of an archive for Arm use other registers than the general ones, in which section (each function has its own). They are told
 # by the bits that Arm gives to each group of instructions, since no disassembler for Arm is sure to be at hand: 27 and 26 both set is floating point

@@ -42,45 +42,35 @@ fn the_lines_by_hand_are_recorded() {
     assert_eq!(checked.up_to_strict, traces.len());
 }
 
+/// What the list meets. Of the cases whose names have this part in them, it has
+/// every one.
+fn has_every(part: &str) -> Coverage {
+    let mut coverage = Coverage::default();
+    for (_, trace) in list(Path::new(TEXTS)).expect("well-formed texts") {
+        coverage.trace(&trace);
+    }
+    let mut missing = coverage.missing();
+    missing.retain(|name| name.contains(part));
+    assert!(missing.is_empty(), "{missing:?}");
+    coverage
+}
+
 /// The order of a command's checks shows where two of them fail: every such two
 /// are in the list.
 #[test]
 fn the_list_has_every_two_checks_that_fail_together() {
-    let mut coverage = Coverage::default();
-    for (_, trace) in list(Path::new(TEXTS)).expect("well-formed texts") {
-        coverage.trace(&trace);
-    }
-    let missing = coverage.missing();
-    let twos = missing
-        .iter()
-        .filter(|name| name.contains("for two reasons"));
-    assert_eq!(twos.count(), 0, "{missing:?}");
-    assert!(coverage.moves_without_both() > 0);
+    assert!(has_every("for two reasons").moves_without_both() > 0);
 }
 
 #[test]
 fn the_list_has_actions_before_every_refusal_of_a_command() {
-    let mut coverage = Coverage::default();
-    for (_, trace) in list(Path::new(TEXTS)).expect("well-formed texts") {
-        coverage.trace(&trace);
-    }
-    let missing = coverage.missing();
-    let before = missing
-        .iter()
-        .filter(|name| name.contains("actions before"));
-    assert_eq!(before.count(), 0, "{missing:?}");
+    has_every("actions before");
 }
 
 /// What a base unit does with Retry is in the list in every way.
 #[test]
 fn the_list_has_retry_in_base() {
-    let mut coverage = Coverage::default();
-    for (_, trace) in list(Path::new(TEXTS)).expect("well-formed texts") {
-        coverage.trace(&trace);
-    }
-    let missing = coverage.missing();
-    let retry = missing.iter().filter(|name| name.contains("Retry"));
-    assert_eq!(retry.count(), 0, "{missing:?}");
+    has_every("Retry");
 }
 
 /// Both fit the buffers of the program itstrace.
