@@ -139,8 +139,23 @@ def turn_edit(text, table):
     return re.sub(r"(?m)^((?:old|new): ?|fails: \S+\.antt )(.*)$", line, text)
 
 
+def move_contracts(root):
+    """Rattle makes a module `contracts` of its own, so the file of that name in `its` is `Promises`."""
+    old = root / "crates/its/specs/Contracts.antt"
+    if old.exists():
+        old.rename(old.with_name("Promises.antt"))
+        for p in (root / "crates").rglob("*"):
+            if p.suffix in (".antt", ".rt"):
+                t = p.read_text()
+                out = t.replace("Rattle.its.specs.Contracts.", "Rattle.its.specs.Promises.").replace("pub mod Contracts\n", "pub mod Promises\n")
+                if out != t:
+                    p.write_text(out)
+
+
 def main():
     root = pathlib.Path(__file__).resolve().parent.parent
+    if "--check" not in sys.argv:
+        move_contracts(root)
     crates = {p.name for p in (root / "crates").iterdir()}
     files = sorted(p for p in (root / "crates").rglob("*") if p.suffix in (".antt", ".rt") and "out" not in p.parts)
     was = {p: p.read_text() for p in files}
