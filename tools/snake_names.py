@@ -57,7 +57,7 @@ def ours(path, crates):
 
 def is_made(steps):
     """Whether a module is one that Rattle makes of a function or a type: its names are not ours."""
-    return steps[-1] in ("Goals", "Given", "Tie", "Statement", "Code", "Met", "Symbol", "Key", "TheLaws", "Lts") or "declared" in steps or "contracts" in steps
+    return "proofs" in steps and steps[-1] in ("Goals", "Given", "Tie", "Statement", "Code", "Met", "Symbol", "Key", "TheLaws", "Lts") or "declared" in steps or "contracts" in steps
 
 
 def imports(text, crates):
@@ -160,15 +160,16 @@ def main():
     files = sorted(p for p in (root / "crates").rglob("*") if p.suffix in (".antt", ".rt") and "out" not in p.parts)
     was = {p: p.read_text() for p in files}
     texts = dict(was)
-    for file, locals_ in LOCALS.items():
-        p = root / "crates" / file
-        texts[p] = "".join(turn(part, locals_) if turns is True else part for part, turns in spans(was[p], p))
     names = set()
     for p, t in texts.items():
         if p.suffix == ".antt" and not is_of_function(p):
             names |= declared(code(t))
     if "tooLarge" not in names:  # turned already: the lemma has its other name
         del OTHERS["too_large"]
+    else:
+        for file, locals_ in LOCALS.items():
+            p = root / "crates" / file
+            texts[p] = "".join(turn(part, locals_) if turns is True else part for part, turns in spans(was[p], p))
     table = {n: spelled(n) for n in names if spelled(n) != n}
     of = collections.defaultdict(set)
     for n in names:

@@ -13,7 +13,7 @@ use Rattle.model.specs.declared.Verdict.TheVariants.{Accepted}
 use Rattle.model.specs.Arm.{is_identification}
 use Rattle.model.specs.Config.{sizes_in01, sound_config, sound_unit}
 use Rattle.model.specs.Register.{register_at, takes_width}
-use Rattle.model.specs.Access.{lies_in_frame, check_access}
+use Rattle.model.specs.Access.{in_frame, check_access}
 use Rattle.model.proofs.Cases.{cases, never, and_left, and_right, both}
 use Rattle.model.proofs.Profiles.{sizes_of}
 use Rattle.arm_agreement.specs.Registers.{Reg, CTLR, IIDR, TYPER, CBASER, CWRITER, CREADR, BASER, Piece, whole, low, high, has, offset_of, width_of}
@@ -86,7 +86,7 @@ module _ (u : ItsState) (sound : sound_unit u ≡ true) (offset width : ℕ) (fi
   abbrev width_is : Bool
   width_is = eqb width 1 || (eqb width 2 || (eqb width 4 || eqb width 8))
 
-  lies_in_frame : lies_in_frame u.config offset width ≡ true
+  lies_in_frame : in_frame u.config offset width ≡ true
   lies_in_frame =
       let f = and_left (width_is && (leb (offset + width) 65536 && eqb (offset % width) 0)) _ fits in
       let g = and_right width_is _ f in

@@ -2,7 +2,7 @@
 -- strict its event lies below its device's capacity too, and no device above 65535 is mapped. Each accepted command keeps that.
 -- Assumes nothing.
 use Prim.Native.Nat.{ℕ}
-use mathlib.Core.Path.{◌≡◌, refl, sym, ◌∙◌}
+use mathlib.Core.Path.{◌≡◌, refl, sym, subst, ◌∙◌}
 use mathlib.Core.Bool.{Bool, true, false, ◌&&◌, not}
 use mathlib.Core.List.{List, [], ◌∷◌}
 use mathlib.Core.Option.{Option, none, some}
@@ -146,7 +146,9 @@ module _ (u : ItsState) (h : List Command) (agrees : Agrees h u) (sound : Sound 
       record {
         range = rw k b.range;
         device = b.device;
-        collection = rw k (collection_now_lem c (passed (collection_mapped u c) (Refused CollectionUnmapped) _ refl (own u (Movi d' e' c) ok)).0);
+        collection =
+              subst (λ z. is_found (collection_now z.collection (Movi d' e' c ∷ h)) ≡ true) (sym k)
+              (collection_now_lem c (passed (collection_mapped u c) (Refused CollectionUnmapped) _ refl (own u (Movi d' e' c) ok)).0);
       })
       (λ s. sound.behind d e y (rw s at q))
   behind_step (Int d' e') ok d e y q = sound.behind d e y q

@@ -14,7 +14,7 @@ use Rattle.model.specs.Step.{check}
 use Rattle.model.specs.With.{with_ring, a_config}
 use Rattle.model.specs.Queue.{waiting}
 use Rattle.model.specs.Entry.{configure, read, write, translate}
-use Rattle.model.specs.Met.{unitAfter}
+use Rattle.model.specs.Met.{unit_after}
 
 -- The configuration of 01's example, with any limit and profile: budget 64, frame 65536, processors 0 and 1.
 abbrev pub configured : ℕ → ℕ → ItsConfig
@@ -58,7 +58,7 @@ mapti event lpi = Mapti (record { 0 = 5 }) (record { 0 = event }) (record { 0 = 
 
 -- after the commands xs, the last one first: the number that x answers
 abbrev pub becomes : List Command → Command → ℕ
-becomes xs x = verdict_number (check (unitAfter (with_limit 65535) xs) x)
+becomes xs x = verdict_number (check (unit_after (with_limit 65535) xs) x)
 
 -- the example's commands
 abbrev pub example_met : List Command
@@ -66,7 +66,7 @@ example_met = Int (record { 0 = 5 }) (record { 0 = 9 }) ∷ mapti 9 8200 ∷ map
 
 -- where (5, 9) goes after the commands xs: the LPI
 abbrev pub given : List Command → ℕ
-given xs = (translate_numbers (translate (unitAfter (with_limit 65535) xs) (record { 0 = 5 }) (record { 0 = 9 }))).lpi
+given xs = (translate_numbers (translate (unit_after (with_limit 65535) xs) (record { 0 = 5 }) (record { 0 = 9 }))).lpi
 
 -- The table: the number of a corner, and whether it holds.
 pub record Corner : Type 0 where

@@ -12,12 +12,12 @@ use Rattle.model.specs.declared.Command.TheVariants.{Mapd, Mapti, Mapi, Movi, In
 use Rattle.model.specs.Refusal.{verdict_number, translate_numbers}
 use Rattle.model.specs.Step.{check}
 use Rattle.model.specs.Entry.{configure, translate}
-use Rattle.model.specs.Met.{unitAfter}
+use Rattle.model.specs.Met.{unit_after}
 use Rattle.model.specs.Corners.{configured, mapd, mapti, becomes, example_met, Corner, corner}
 
 -- the strict unit that met the commands xs, the last one first
 abbrev pub strict_after : List Command → ItsState
-strict_after xs = unitAfter (configured 65535 1) xs
+strict_after xs = unit_after (configured 65535 1) xs
 
 -- the number that x answers then
 abbrev pub becomes_strict : List Command → Command → ℕ

@@ -58,7 +58,7 @@ use Rattle.window.proofs.GuestWindow.TheLaws as G'
 use Rattle.window.proofs.Walk.{◌⨾◌, block, starts, held, sets, sets_as, resets, hears_plain, hears_last, lands_in, lands_as, lifts, lays, leaves, let_go, Ways, Concluded, concludes, Walked}
 use Rattle.window.proofs.Walk.{number_known, struct_known, walks_at, stands}
 use Rattle.queue.proofs.Boxed.{τW, lent_on, window_on, word, byte, W_typed}
-use Rattle.its.specs.Promises.{Writes, WritesLent, beside_row, lent_of_fn}
+use Rattle.its.specs.Promises.{Writes, WritesLent, beside_row, lent_of}
 use Rattle.its.proofs.Boxed.{τS, τO, v_s, S_typed, O_typed}
 use Rattle.its.proofs.LocalRow.{AsSlice, Lends, lends_array, WholeAgain, array_back}
 use Rattle.its.proofs.Lending.{lent_fits, lent_length, lent_whole, ends_as}
@@ -224,7 +224,7 @@ module _ {M : Type 1} {𝓤 : Ura M} (𝓛 : Logic 𝓤) (mem : Memory → SProp
     row_typed l u is = ((Array-Lawful 𝓛 R.the_row (LL.lawful R.the_type R'.the_laws 𝓛) 1024).typed l _ is).0
 
     -- as many records as are lent have room, and their number is a machine's
-    first-room : (l : List ItsAction) → length l ≡ 1024 → Room R.the_row (length (take (lent_of_fn n) l))
+    first-room : (l : List ItsAction) → length l ≡ 1024 → Room R.the_row (length (take (lent_of n) l))
     first-room l len = (omega (arith, lent_length l len n, lent_fits n), omega (arith, lent_length l len n, lent_fits n))
 
     walk : ent 𝓤 (on_entry 𝓛 f.signature (κ, tt) (q, tt) a vals) (WpFn 𝓤 H 𝓣.C 𝓣.Λ boxed (v_s st ∷ vint w64 address ∷ v ∷ vint w64 n ∷ vint w64 offset ∷ vint w8 width ∷ vint w64 value ∷ []) Post)
@@ -238,30 +238,30 @@ module _ {M : Type 1} {𝓤 : Ura M} (𝓛 : Logic 𝓤) (mem : Memory → SProp
         hears_plain 𝓛 fresh.ended (fresh.clauses 𝓛 mem run) to-fresh (λ r. r ≡ lent_row) ! 𝓣 known.makes-row tt tt (id⊢ 𝓤 _) (id⊢ 𝓤 _) (λ r ws. id⊢ 𝓤 _) (no_more !) (λ v₀ r e is.
         lands_in ! refl (row_typed r v₀ is) $ sets ! (of_opd ! (held ! refl)) refl (row_typed r v₀ is) $
         -- `lent_of`
-        hears_plain 𝓛 lent_of_fn.ended (lent_of_fn.clauses 𝓛 mem run) to-lent-of (λ k. k ≡ lent_of_fn n) ! 𝓣 known.counts (uint_Makes 𝓛 w64, tt) ((refl, n-fits), tt) (id⊢ 𝓤 _) (id⊢ 𝓤 _)
+        hears_plain 𝓛 lent_of_fn.ended (lent_of_fn.clauses 𝓛 mem run) to-lent-of (λ k. k ≡ lent_of n) ! 𝓣 known.counts (uint_Makes 𝓛 w64, tt) ((refl, n-fits), tt) (id⊢ 𝓤 _) (id⊢ 𝓤 _)
         (λ k ws. id⊢ 𝓤 _) (and_then ! (held ! refl) (no_more !)) (λ w₁ k many k-is. lands_as ! (ap only k-is.0) refl ((uint_Lawful 𝓛 w64).typed k _ k-is).0 $ drop ! $
         sets ! (agg ! (and_then ! (held ! refl) (and_then ! (held ! refl) (no_more !)))) refl (tt, (record { fits = address_fits }, (((shr_slice_Lawful 𝓛 (named 0) κ u8).typed y (v ∷ []) y-is).0.1, tt))) $
         sets ! (addr ! (from ! (stop !))) refl (tt, tt) $
         sets_as ! (slice_val (b, 0)) (many ∙ sym (lent_length r is.1.0.1 n)) (agg ! (and_then ! (held ! refl) (and_then ! (held ! refl) (no_more !)))) refl (tt, (tt, (record { fits = k-is.1 }, tt))) $
         -- the first records are lent, for a lifetime ν of the call
-        rewrite ! 0 (λ (l : List ItsAction). ‵ (Row.own_val l (v₀ ∷ []))) (sym (take-append-drop (lent_of_fn n) r)) refl $
+        rewrite ! 0 (λ (l : List ItsAction). ‵ (Row.own_val l (v₀ ∷ []))) (sym (take-append-drop (lent_of n) r)) refl $
         lft_new ! tt (λ ν. lifts ! row-local $ move ! (0 ∷ 2 ∷ []) $
-        use2 𝓛 (later (some (λ (γ : GName). ‵ (RowOwn ν b γ (take (lent_of_fn n) r)) ⊛ ‵ (Lends 𝓛 R.the_row tt 1024 b (ν ∷ []) (length (take (lent_of_fn n) r)) (behind (lent_of_fn n) r) γ))))
-        (lends_array 𝓛 R.the_row tt 1024 b (named 1) (ν ∷ []) (take (lent_of_fn n) r) (behind (lent_of_fn n) r) v₀ (first-room r is.1.0.1)) $ await ! tt $ pick ! (λ γ. split ! $
+        use2 𝓛 (later (some (λ (γ : GName). ‵ (RowOwn ν b γ (take (lent_of n) r)) ⊛ ‵ (Lends 𝓛 R.the_row tt 1024 b (ν ∷ []) (length (take (lent_of n) r)) (behind (lent_of n) r) γ))))
+        (lends_array 𝓛 R.the_row tt 1024 b (named 1) (ν ∷ []) (take (lent_of n) r) (behind (lent_of n) r) v₀ (first-room r is.1.0.1)) $ await ! tt $ pick ! (λ γ. split ! $
         -- [what the row owns; the lender's part; the token of ν; what bytes owns; the token; _14; …]
-        move ! (4 ∷ []) $ split ! $ move ! (0 ∷ 4 ∷ []) $ join ! $ move ! (0 ∷ 2 ∷ 4 ∷ []) $ use3 𝓛 (raw ((Write 𝓛 mem run).pre (to_write ν b γ (take (lent_of_fn n) r)))) (goes-write ν b γ (take (lent_of_fn n) r)) $
+        move ! (4 ∷ []) $ split ! $ move ! (0 ∷ 4 ∷ []) $ join ! $ move ! (0 ∷ 2 ∷ 4 ∷ []) $ use3 𝓛 (raw ((Write 𝓛 mem run).pre (to_write ν b γ (take (lent_of n) r)))) (goes-write ν b γ (take (lent_of n) r)) $
         -- [what `write_its` asks; …; the lender's part; _14; …]
-        hears_last 𝓛 writes.ended (writes.clauses 𝓛 mem run) (to_write ν b γ (take (lent_of_fn n) r)) (λ t ws. Writes win (take (lent_of_fn n) r) st offset width value t ws.1.1.0) ! 𝓣 known.write (λ t ws. id⊢ 𝓤 _)
+        hears_last 𝓛 writes.ended (writes.clauses 𝓛 mem run) (to_write ν b γ (take (lent_of n) r)) (λ t ws. Writes win (take (lent_of n) r) st offset width value t ws.1.1.0) ! 𝓣 known.write (λ t ws. id⊢ 𝓤 _)
         (and_then ! (held ! refl) (and_then ! (held ! refl) (and_then ! (held ! refl) (and_then ! (held ! refl) (and_then ! (held ! refl) (and_then ! (held ! refl) (no_more !))))))) (λ w t ws c t-is.
         lands_in ! refl (W_typed 𝓛 t _ t-is) $
         -- [what the answer owns; what is said of the last values; the token; that of ν; …; the lender's part; _14; …]: the lifetime is ended, and the row comes back
         move ! (1 ∷ []) $ fsplit ! $ drop ! $ fsplit ! $ drop ! $ fsplit ! $ fsplit ! $ move ! (1 ∷ []) $ feq_l ! (λ len. move ! (4 ∷ []) $ lft_end ! tt $ move ! (0 ∷ 6 ∷ 1 ∷ []) $
-        use3 𝓛 (later (some (λ (u : Val). ‵ (WholeAgain 𝓛 R.the_row tt 1024 b (ws.1.1.0 ++ behind (lent_of_fn n) r) u))))
-        (array_back 𝓛 R.the_row tt 1024 b (ν ∷ []) γ (length (take (lent_of_fn n) r)) ws.1.1.0 (behind (lent_of_fn n) r) len (lent_whole r is.1.0.1 n ws.1.1.0 len)) $ await ! tt $ pick ! (λ u. fsplit ! $
-        lays ! row-local $ peeks ! Row (Is Row) (shows 𝓛 Row) (ws.1.1.0 ++ behind (lent_of_fn n) r) (u ∷ []) (λ zs-is. drop ! $
+        use3 𝓛 (later (some (λ (u : Val). ‵ (WholeAgain 𝓛 R.the_row tt 1024 b (ws.1.1.0 ++ behind (lent_of n) r) u))))
+        (array_back 𝓛 R.the_row tt 1024 b (ν ∷ []) γ (length (take (lent_of n) r)) ws.1.1.0 (behind (lent_of n) r) len (lent_whole r is.1.0.1 n ws.1.1.0 len)) $ await ! tt $ pick ! (λ u. fsplit ! $
+        lays ! row-local $ peeks ! Row (Is Row) (shows 𝓛 Row) (ws.1.1.0 ++ behind (lent_of n) r) (u ∷ []) (λ zs-is. drop ! $
         -- [what is said of the other last values; what the answer owns; the token; …; _14; …]: `with_row`
-        resets ! (of_opd ! (held ! refl)) refl (row_typed (ws.1.1.0 ++ behind (lent_of_fn n) r) u zs-is) $
-        hears_plain 𝓛 beside.ended (beside.clauses 𝓛 mem run) (to-beside t w (ws.1.1.0 ++ behind (lent_of_fn n) r) u) (λ o. o ≡ beside_row t (ws.1.1.0 ++ behind (lent_of_fn n) r)) ! 𝓣 known.joins
+        resets ! (of_opd ! (held ! refl)) refl (row_typed (ws.1.1.0 ++ behind (lent_of n) r) u zs-is) $
+        hears_plain 𝓛 beside.ended (beside.clauses 𝓛 mem run) (to-beside t w (ws.1.1.0 ++ behind (lent_of n) r) u) (λ o. o ≡ beside_row t (ws.1.1.0 ++ behind (lent_of n) r)) ! 𝓣 known.joins
         (LL.makes Z.the_type Z'.the_plain 𝓛, (Array-Makes 𝓛 R.the_row (LL.makes R.the_type R'.the_plain 𝓛) 1024, tt)) (t-is, (zs-is, tt)) (id⊢ 𝓤 _) (id⊢ 𝓤 _) (λ o ws'. id⊢ 𝓤 _)
         (and_then ! (held ! refl) (and_then ! (held ! refl) (no_more !))) (λ w' o then o_is. lands_in ! refl (O_typed 𝓛 o _ o_is) $
         -- [what the result owns; …; what the answer owns; the token; …; _14; …]
