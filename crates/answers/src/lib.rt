@@ -1,5 +1,7 @@
 // What both texts of the unit answer: the paper's number of each refusal and the values that go with each case of an answer; and the counts of a run,
 // one command after the other, up to the answer that they come to.
+#![tactic(auto)]
+
 ghost use Rattle.std.specs.Prelude.{◌≡◌, ◌∷◌, [], ◌+◌, ◌<◌, ◌^◌};
 ghost use Rattle.model.specs.Refusal.{number_of, verdict_number, read_numbers, write_numbers, translate_numbers};
 ghost use Rattle.answers.specs.Counting.{staying, passing, counted_on, is_halted, is_refusal, answering};
@@ -138,7 +140,7 @@ pub fn handed(answer: WriteAnswer) -> usize
 
 // Why a run ended: nothing was left to carry out; more commands wait than the budget; or a command was refused, with its opcode, which is 0 where it was
 // not read.
-#[derive(Drop)]
+#[derive(Clone, Copy)]
 pub enum Stopped {
     Ended,
     Over,
@@ -146,7 +148,7 @@ pub enum Stopped {
 }
 
 // What a turn comes to: whether CREADR passed a command, whether that made an action, and why it stopped where it did.
-#[derive(Drop)]
+#[derive(Clone, Copy)]
 pub struct Turned {
     pub passed: bool,
     pub acted: bool,
@@ -154,7 +156,7 @@ pub struct Turned {
 }
 
 // The run between two commands: how many are left, how many were carried out and how many actions they made, and why the run ended.
-#[derive(Drop)]
+#[derive(Clone, Copy)]
 pub struct Counts {
     pub left: u64,
     pub done: usize,

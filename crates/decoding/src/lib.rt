@@ -1,5 +1,7 @@
 // A command read from the guest's memory, which is lent as bytes with the guest address of the first, and decoded. All its 32 bytes are there, or none
 // is read; and no sum is made that could wrap.
+#![tactic(auto)]
+
 ghost use Rattle.std.specs.Prelude.{◌≡◌};
 ghost use Rattle.model.specs.Decode.{decode as decodeOf};
 ghost use Rattle.model.specs.Queue.{command_at, in_window};
@@ -8,14 +10,14 @@ ghost use Rattle.decoding.specs.Reading.{lent, word_read, no_command, command_re
 use model::{Command, Decoded};
 
 // A word of a command, where it was read.
-#[derive(Drop)]
+#[derive(Clone, Copy)]
 pub struct WordRead {
     pub word: u64,
     pub read: bool,
 }
 
 // The words of a command, where it was read.
-#[derive(Drop)]
+#[derive(Clone, Copy)]
 pub struct CommandRead {
     pub words: [u64; 4],
     pub read: bool,

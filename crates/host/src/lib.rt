@@ -1,6 +1,8 @@
 // The unit for a host: C calls over a unit that the host owns as numbers (specs/Numbers.antt of crate `lent_tables`), with the window and the row as
 // pointer and length. Each call puts the numbers of its answer, those of the line that `itstrace` would write, into `told`, and returns the
 // first of them, the refusal. What each promises is said in specs/Calls.antt.
+#![tactic(auto)]
+
 ghost use Rattle.std.specs.Prelude.{◌≡◌, length};
 ghost use Rattle.model.specs.Config.{answers_no_unit};
 ghost use Rattle.model.specs.Entry.{configure as configureOf, translate as translateOf};

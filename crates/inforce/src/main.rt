@@ -1,4 +1,6 @@
 // Reads a trace from standard input and prints which mappings are in force at its end; with a plus sign before the trace, after each of its records.
+#![tactic(auto)]
+
 mod lines;
 mod runs;
 

@@ -1,5 +1,7 @@
 // The unit as a host calls it, by value: configuration, reads, writes, translation. Every contract is an equation with a definition of the model, and
 // none asks anything of the caller.
+#![tactic(auto)]
+
 ghost use Rattle.std.specs.Prelude.{◌≡◌};
 ghost use Rattle.model.specs.Config.{fresh_unit, no_config, fresh_registers};
 ghost use Rattle.model.specs.Trace.{lent_row};
@@ -15,7 +17,7 @@ use queue::Progress;
 use window::GuestWindow;
 
 // What a write answers, with the row as it is left.
-#[derive(Drop)]
+#[derive(Clone, Copy)]
 pub struct WrittenRow {
     pub unit: ItsState,
     pub answer: WriteAnswer,

@@ -1,4 +1,6 @@
 // Reads a trace from standard input and prints its lines.
+#![tactic(auto)]
+
 ghost use Rattle.std.specs.Prelude.{◌≡◌, ◌≤◌, length, take};
 ghost use Rattle.model.specs.Trace.{printed};
 

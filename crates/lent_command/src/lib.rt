@@ -1,5 +1,7 @@
 // One command carried out on a unit that is lent as numbers: its checks in their order, and then its effect. maps.rt has the commands that
 // map, pairs.rt those on a pair or a collection that is mapped.
+#![tactic(auto)]
+
 pub mod maps;
 pub mod pairs;
 

@@ -1,4 +1,6 @@
 // The bounded run of the queue of a unit that is lent as numbers: 5 is tested once, then each command in turn, and its action goes to the row.
+#![tactic(auto)]
+
 ghost use Rattle.std.specs.Prelude.{◌≡◌, true, ◌*◌, ◌≤◌, ◌<◌, ◌^◌, length};
 ghost use Rattle.model.specs.Config.{sound_unit};
 ghost use Rattle.model.specs.Register.{one_if};

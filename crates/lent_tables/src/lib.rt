@@ -1,5 +1,7 @@
 // The unit as numbers that a host owns and lends: which unit they are is said in specs/Numbers.antt. No word of it is copied to change
 // one of them. Here are its parts; records.rt has the searches and drops.
+#![tactic(auto)]
+
 pub mod records;
 
 ghost use Rattle.std.specs.Prelude.{◌≡◌, true, [], ◌∷◌, ◌*◌, ◌+◌, ◌%◌, ◌^◌, ◌<◌, length, set};

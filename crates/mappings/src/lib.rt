@@ -1,12 +1,14 @@
 // Which mappings are in force: what each record of the unit's tables stands for. The contracts are equations with specs/Mappings.antt, which lists the
 // mappings of a unit in the order of its tables; proofs/ shows that the list is that of the history.
+#![tactic(auto)]
+
 ghost use Rattle.std.specs.Prelude.{◌≡◌};
 ghost use Rattle.mappings.specs.Mappings.{counts, no_mapping, mapping_at, mapped_at};
 
 use model::{CollectionId, EventId, GicVcpuId, ItsDevice, ItsDeviceId, ItsState, LpiId};
 
 // A pair in force, with its LPI, its collection and the processor of that. Where `in_force` is false the numbers are 0.
-#[derive(Drop)]
+#[derive(Clone, Copy)]
 pub struct Mapping {
     pub device: ItsDeviceId,
     pub event: EventId,

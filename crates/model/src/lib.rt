@@ -1,37 +1,39 @@
 // The types of one ITS frame: the unit, its commands and its answers. What they mean is said in specs/.
+#![tactic(auto)]
+
 
 // Numbers of five kinds, kept apart as in the crate.
-#[derive(Drop)]
+#[derive(Clone, Copy)]
 pub struct ItsDeviceId(pub u32);
 
-#[derive(Drop)]
+#[derive(Clone, Copy)]
 pub struct EventId(pub u32);
 
-#[derive(Drop)]
+#[derive(Clone, Copy)]
 pub struct CollectionId(pub u16);
 
-#[derive(Drop)]
+#[derive(Clone, Copy)]
 pub struct LpiId(pub u32);
 
-#[derive(Drop)]
+#[derive(Clone, Copy)]
 pub struct GicVcpuId(pub u16);
 
 // The records of the three tables. A record that is not used is free.
-#[derive(Drop)]
+#[derive(Clone, Copy)]
 pub struct ItsDevice {
     pub device: ItsDeviceId,
     pub event_bits: u8,
     pub used: bool,
 }
 
-#[derive(Drop)]
+#[derive(Clone, Copy)]
 pub struct ItsCollection {
     pub collection: CollectionId,
     pub target: GicVcpuId,
     pub used: bool,
 }
 
-#[derive(Drop)]
+#[derive(Clone, Copy)]
 pub struct Translation {
     pub device: ItsDeviceId,
     pub event: EventId,
@@ -41,7 +43,7 @@ pub struct Translation {
 }
 
 // What configuration fixes. The profile is 0 for base or 1 for strict. The processors are the first `processor_count` of the sixteen.
-#[derive(Drop)]
+#[derive(Clone, Copy)]
 pub struct ItsConfig {
     pub lpi_limit: u32,
     pub command_budget: u32,
@@ -52,7 +54,7 @@ pub struct ItsConfig {
 }
 
 // What the guest writes and reads back; and whether the queue has stopped at a command, which only strict says, shows and heeds.
-#[derive(Drop)]
+#[derive(Clone, Copy)]
 pub struct ItsRegisters {
     pub enabled: bool,
     pub stalled: bool,
@@ -63,7 +65,7 @@ pub struct ItsRegisters {
 }
 
 // The unit.
-#[derive(Drop)]
+#[derive(Clone, Copy)]
 pub struct ItsState {
     pub config: ItsConfig,
     pub registers: ItsRegisters,
@@ -73,7 +75,7 @@ pub struct ItsState {
 }
 
 // The register that an offset of the frame belongs to.
-#[derive(Drop)]
+#[derive(Clone, Copy)]
 pub enum Register {
     Ctlr,
     Iidr,
@@ -86,7 +88,7 @@ pub enum Register {
 }
 
 // A decoded command.
-#[derive(Drop)]
+#[derive(Clone, Copy)]
 pub enum Command {
     Mapd {
         device: ItsDeviceId,
@@ -137,14 +139,14 @@ pub enum Command {
 }
 
 // What the decoder answers: one of the kinds, or the opcode of none of them.
-#[derive(Drop)]
+#[derive(Clone, Copy)]
 pub enum Decoded {
     Known(Command),
     Unknown(u8),
 }
 
 // Why something is refused. The numbers that the host sees are given by specs/Refusal.antt.
-#[derive(Drop)]
+#[derive(Clone, Copy)]
 pub enum Refusal {
     Unsound,
     RowTooShort,
@@ -168,14 +170,14 @@ pub enum Refusal {
 }
 
 // What becomes of a command or of a configuration: it is taken, or the first check that failed.
-#[derive(Drop)]
+#[derive(Clone, Copy)]
 pub enum Verdict {
     Accepted,
     Refused(Refusal),
 }
 
 // What carrying out a command comes to: its refusal, nothing to hand over, or an action for the host.
-#[derive(Drop)]
+#[derive(Clone, Copy)]
 pub enum Executed {
     NotDone(Refusal),
     Done,
@@ -183,14 +185,14 @@ pub enum Executed {
 }
 
 // Where a message goes.
-#[derive(Drop)]
+#[derive(Clone, Copy)]
 pub struct Delivery {
     pub lpi: LpiId,
     pub target: GicVcpuId,
 }
 
 // What an INT (pending) or a CLEAR (not pending) hands to the host.
-#[derive(Drop)]
+#[derive(Clone, Copy)]
 pub struct ItsAction {
     pub target: GicVcpuId,
     pub lpi: LpiId,
@@ -198,13 +200,13 @@ pub struct ItsAction {
 }
 
 // The answers of the public entries.
-#[derive(Drop)]
+#[derive(Clone, Copy)]
 pub enum ReadAnswer {
     Value(u64),
     NoValue(Refusal),
 }
 
-#[derive(Drop)]
+#[derive(Clone, Copy)]
 pub enum WriteAnswer {
     Taken {
         done: usize,
@@ -219,7 +221,7 @@ pub enum WriteAnswer {
     },
 }
 
-#[derive(Drop)]
+#[derive(Clone, Copy)]
 pub enum TranslateAnswer {
     Delivered(Delivery),
     NotDelivered(Refusal),
@@ -227,7 +229,7 @@ pub enum TranslateAnswer {
 
 // What a write does to the registers before any command runs: the registers that it leaves, whether they have a new base, whether the queue then
 // runs, and the answer where it does not.
-#[derive(Drop)]
+#[derive(Clone, Copy)]
 pub struct RegisterWrite {
     pub registers: ItsRegisters,
     pub rebased: bool,
@@ -236,20 +238,20 @@ pub struct RegisterWrite {
 }
 
 // An answer that comes with a unit stands beside it.
-#[derive(Drop)]
+#[derive(Clone, Copy)]
 pub struct Configured {
     pub unit: ItsState,
     pub verdict: Verdict,
 }
 
-#[derive(Drop)]
+#[derive(Clone, Copy)]
 pub struct Written {
     pub unit: ItsState,
     pub answer: WriteAnswer,
 }
 
 // A command carried out: the unit after it, and what it came to.
-#[derive(Drop)]
+#[derive(Clone, Copy)]
 pub struct Applied {
     pub unit: ItsState,
     pub executed: Executed,

@@ -1,6 +1,8 @@
 // The command queue, by value: the guest window, the action row, and the bounded run over both. Behaviour is in `start` and `turn`, which go by
 // value; `process_commands` holds window and row, reads each command through the window, hands its words to `turn`, and has `store_action`
 // store the action.
+#![tactic(auto)]
+
 ghost use Rattle.std.specs.Prelude.{◌≡◌, [], ◌<◌, length};
 ghost use Rattle.model.specs.Choose.{if◌then◌else◌};
 ghost use Rattle.model.specs.Config.{queue_size};
@@ -20,7 +22,7 @@ use window::GuestWindow;
 // A write between two commands of its run: whether to go on, the action of the last command and its place in the row, the guest address of the command
 // on which CREADR stands, the counts, the answer if nothing more is done, and the unit. (What `process_commands` reads stands first: its
 // proof works out where each of those fields lies.)
-#[derive(Drop)]
+#[derive(Clone, Copy)]
 pub struct Progress {
     pub more: bool,
     pub acted: bool,

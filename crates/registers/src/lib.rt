@@ -1,5 +1,7 @@
 // The registers of the frame: which accesses are taken (access.rt), which configurations and rings are sound (sizes.rt), what a register reads, and
 // what a write leaves in the registers. Nothing here looks at a table.
+#![tactic(auto)]
+
 pub mod access;
 pub mod sizes;
 

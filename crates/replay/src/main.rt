@@ -3,11 +3,13 @@
 // end stands how many traces and lines agreed.
 //
 // Every function here is proved safe and ending, and no more: a step that is guarded by its own tests needs no invariant of the loop around it.
+#![tactic(auto)]
+
 ghost use Rattle.io.specs.Counts.{IsPrefixLen};
 
 use libc::STDOUT_FILENO;
 
-#[derive(Drop)]
+#[derive(Clone, Copy)]
 struct Tally {
     traces: u64,
     lines: u64,
@@ -16,7 +18,7 @@ struct Tally {
 
 // How far two runs of bytes agree: the first place that differs, how many lines end before it, where its line starts, and where the last line
 // before it starts that is not an `AC` line.
-#[derive(Drop)]
+#[derive(Clone, Copy)]
 struct Reached {
     at: usize,
     lines: u64,

@@ -1,5 +1,7 @@
 // The three tables: where the record of a key is or would go, and dropping. A table is an array of records, by value. The contract of each
 // function says that its answer is that of a definition of the model.
+#![tactic(auto)]
+
 ghost use Rattle.std.specs.Prelude.{◌≡◌, not, get_or};
 ghost use Rattle.model.specs.Table.{first_at, place, drop_all};
 ghost use Rattle.model.specs.Keys.{is_device, is_collection, is_pair, of_device, no_device, no_collection, no_translation};

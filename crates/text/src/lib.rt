@@ -1,5 +1,7 @@
 // Lines in decimal, laid into an output that the caller lends. A line goes in whole, and after one that does not fit nothing more does.
 // What a line is says the model; what an output becomes is said in specs/Laying.antt.
+#![tactic(auto)]
+
 pub mod lines;
 
 ghost use Rattle.std.specs.Prelude.{◌≡◌, ◌+◌, ◌≤◌, suc, ◌∷◌, length, take};
@@ -7,7 +9,7 @@ ghost use Rattle.model.specs.Trace.{digit_count, digits, decimal, spaced, space}
 ghost use Rattle.text.specs.Laying.{line_of, laid_at, full_at, Lays};
 
 // A line: the two bytes of its mark, and the first `count` of the numbers.
-#[derive(Drop)]
+#[derive(Clone, Copy)]
 pub struct Line {
     pub first: u8,
     pub second: u8,
@@ -16,7 +18,7 @@ pub struct Line {
 }
 
 // How many bytes of the output are written, and whether a line did not fit.
-#[derive(Drop)]
+#[derive(Clone, Copy)]
 pub struct Laid {
     pub at: usize,
     pub full: bool,

@@ -1,5 +1,7 @@
 // The trace: records in, lines out, through the entries that a host calls. What a run over a trace writes and returns says the model; specs/Records.antt
 // takes the run one record at a time, and proofs/Rest.antt shows that the records add up to the model's run.
+#![tactic(auto)]
+
 mod parts;
 // For a program that looks at the unit between two records; a host calls `run_trace`.
 pub mod records;
@@ -12,7 +14,7 @@ use model::ItsState;
 use text::Laid;
 
 // The mark of a record.
-#[derive(Drop)]
+#[derive(Clone, Copy)]
 pub enum Mark {
     Cf,
     Gm,
@@ -24,7 +26,7 @@ pub enum Mark {
 
 // The run between two records: how far the trace is read, how far the output is written, the window, which is a part of the trace and the guest
 // address of its first byte, and the unit.
-#[derive(Drop)]
+#[derive(Clone, Copy)]
 pub struct Run {
     pub at: usize,
     pub laid: Laid,

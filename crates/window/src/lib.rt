@@ -1,5 +1,7 @@
 // What a host lends for a write, as 01 names the forms: the guest window, carried together as one reader, and the row of actions. The functions here are
 // the thin ones over them, and their proofs walk the code by hand; each calls a function that goes by value.
+#![tactic(auto)]
+
 ghost use Rattle.std.specs.Prelude.{◌≡◌, ◌<◌, length, set};
 ghost use Rattle.model.specs.Queue.{command_at};
 ghost use Rattle.decoding.specs.Reading.{lent, word_read, command_read};
@@ -8,7 +10,7 @@ use decoding::{CommandRead, WordRead};
 use model::ItsAction;
 
 // The guest window: a lent run of bytes with the guest address of its first byte.
-#[derive(Drop)]
+#[derive(Clone, Copy)]
 pub struct GuestWindow<'a> {
     pub address: u64,
     pub bytes: &'a [u8],

@@ -1,5 +1,7 @@
 // The words of the ring, of a command and of the registers, taken apart and put together. The contract of each function says that its
 // answer is that of a definition of the model, which names the field of Arm that is read.
+#![tactic(auto)]
+
 ghost use Rattle.std.specs.Prelude.{◌≡◌, ◌+◌, ◌≤◌, length, drop, get_or, ltb};
 ghost use Rattle.model.specs.Config.{queue_base, queue_size};
 ghost use Rattle.model.specs.Decode.{opcode_of, device_field, event_field, event_bits_field, lpi_field, collection_field, processor_field, valid_field};
@@ -12,13 +14,13 @@ ghost use Rattle.words.specs.Offsets.{wide_register_base, baser_index};
 use model::{CollectionId, EventId, GicVcpuId, ItsDeviceId, LpiId};
 
 // The base of the 64-bit register that an offset lies in, and the number of the BASER that it lies in.
-#[derive(Drop)]
+#[derive(Clone, Copy)]
 pub enum WideRegisterBase {
     Base(u64),
     NotWide,
 }
 
-#[derive(Drop)]
+#[derive(Clone, Copy)]
 pub enum BaserIndex {
     Index(usize),
     NotBaser,
