@@ -1,0 +1,20 @@
+-- `inforce::lines::put_mappings` meets its contract: the lines of the records that are left, laid from here on, give the same output as all of them.
+use Prim.Native.Nat.{◌-◌, ◌≤◌}
+use native.Mathlib.Omega.{arith}
+use mathlib.Core.Path.{◌≡◌, ◌∙◌, ap}
+use lib.ListN.{length}
+use Rattle.model.proofs.TableLoops.{length_mapped}
+use Rattle.mappings.specs.Mappings.{mapping_at}
+use Rattle.text.specs.Laying.{output, lay_all}
+use Rattle.inforce.specs.Shown.{mapping_line}
+use Rattle.inforce.proofs.Left.{left, laid_on, none_left, all_mappings}
+use borrow.Author.Rules.{rules}
+use Rattle.inforce.proofs.lines.put_mappings.Given as goal
+
+abbrev pub invariant-loop-i : goal.invariant-loop-i
+invariant-loop-i l = (lay_all (output l.out l.next)
+    (left (λ m. m.in_force) (mapping_at l.unit) mapping_line 256 l.i) ≡ lay_all (output l.initial.out l.initial.next)
+    (left (λ m. m.in_force) (mapping_at l.unit) mapping_line 256 0)) × (length l.out ≡ length l.initial.out) × (length l.unit.translations ≡ 256) × (l.i ≤ 256)
+
+abbrev pub decreases-loop-i : goal.decreases-loop-i
+decreases-loop-i l = 256 - l.i

@@ -1,0 +1,13 @@
+-- `tables::find_collection` meets its contract. The loop's invariant is what a search knows before record `i`.
+use Prim.Native.Nat.{◌-◌}
+use borrow.Author.Rules.{rules}
+use Rattle.model.specs.Keys.{is_collection}
+use Rattle.model.proofs.TableLoops.{Searched}
+use Rattle.tables.proofs.Searching.{searching}
+use Rattle.tables.proofs.find_collection.Given as goal
+
+abbrev pub invariant-loop-i : goal.invariant-loop-i
+invariant-loop-i l = Searched 32 (is_collection l.collection) l.collections l.i
+
+abbrev pub decreases-loop-i : goal.decreases-loop-i
+decreases-loop-i l = 32 - l.i

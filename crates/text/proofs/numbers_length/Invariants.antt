@@ -1,0 +1,15 @@
+-- `text::numbers_length` meets its contract. The invariant: what is counted and what is left are the length of all.
+use Prim.Native.Nat.{◌+◌, ◌*◌, ◌-◌, ◌≤◌}
+use native.Mathlib.Omega.{arith}
+use mathlib.Core.Path.{◌≡◌, ap}
+use lib.ListN.{length, get_or}
+use borrow.Author.Rules.{rules}
+use Rattle.text.proofs.Digits.{decimal_length}
+use Rattle.text.proofs.Spaced.{left, left_length, left_none, left_out}
+use Rattle.text.proofs.numbers_length.Given as goal
+
+abbrev pub invariant-loop-i : goal.invariant-loop-i
+invariant-loop-i l = (l.total + length (left l.i l.count l.numbers) ≡ length (left 0 l.count l.numbers)) × (l.total ≤ 22 * l.i) × (l.i ≤ 5)
+
+abbrev pub decreases-loop-i : goal.decreases-loop-i
+decreases-loop-i l = 5 - l.i
