@@ -1,9 +1,7 @@
 -- `text::digit_count` meets its contract. The invariant: the digits that are counted and those that are left are the number's.
 use Prim.Native.Nat.{◌+◌}
-use native.Mathlib.Omega.{arith}
 use mathlib.Core.Path.{◌≡◌}
 use Rattle.model.specs.Trace.{digit_count}
-use Rattle.text.proofs.Digits.{count_more, count_less, count_none}
 use Rattle.text.proofs.digit_count.Given as goal
 
 abbrev pub invariant-loop-left : goal.invariant-loop-left

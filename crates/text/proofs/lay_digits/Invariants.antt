@@ -1,10 +1,8 @@
 -- `text::lay_digits` meets its contract. The invariant: what is left to lay gives the same list as the whole.
 use Prim.Native.Nat.{◌≤◌}
-use native.Mathlib.Omega.{arith}
-use borrow.Author.Rules.{rules}
-use mathlib.Core.Path.{◌≡◌, sym, ◌∙◌}
-use lib.ListN.{length, length-set}
-use Rattle.text.proofs.Digits.{lay, lay_step, lay_none, lay_is}
+use mathlib.Core.Path.{◌≡◌}
+use lib.ListN.{length}
+use Rattle.text.proofs.Digits.{lay}
 use Rattle.text.proofs.lay_digits.Given as goal
 
 abbrev pub invariant-loop-i : goal.invariant-loop-i

@@ -1,12 +1,9 @@
 -- `text::lay_numbers` meets its contract. The invariant: the numbers that are left, laid from here on, give the same list as all of them.
 use Prim.Native.Nat.{◌+◌, ◌-◌, ◌≤◌}
-use native.Mathlib.Omega.{arith}
-use mathlib.Core.Path.{◌≡◌, sym, ◌∙◌, ap}
+use mathlib.Core.Path.{◌≡◌}
 use lib.ListN.{length}
-use borrow.Author.Rules.{rules}
-use Rattle.text.proofs.Spaced.{left, left_length, left_none, left_out, one_laid}
+use Rattle.text.proofs.Spaced.{left}
 use Rattle.text.specs.Laying.{laid_at}
-use Rattle.text.proofs.Places.{none}
 use Rattle.text.proofs.lay_numbers.Given as goal
 
 abbrev pub invariant-loop-i : goal.invariant-loop-i

@@ -1,11 +1,8 @@
 -- `text::numbers_length` meets its contract. The invariant: what is counted and what is left are the length of all.
 use Prim.Native.Nat.{◌+◌, ◌*◌, ◌-◌, ◌≤◌}
-use native.Mathlib.Omega.{arith}
-use mathlib.Core.Path.{◌≡◌, ap}
-use lib.ListN.{length, get_or}
-use borrow.Author.Rules.{rules}
-use Rattle.text.proofs.Digits.{decimal_length}
-use Rattle.text.proofs.Spaced.{left, left_length, left_none, left_out}
+use mathlib.Core.Path.{◌≡◌}
+use lib.ListN.{length}
+use Rattle.text.proofs.Spaced.{left}
 use Rattle.text.proofs.numbers_length.Given as goal
 
 abbrev pub invariant-loop-i : goal.invariant-loop-i
