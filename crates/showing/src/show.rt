@@ -1,4 +1,6 @@
 // A line for each corner: what it is, what came, and what is expected.
+#![tactic(auto, unfolding(model::specs::Trace::line, text::specs::Laying::line_of))]
+
 ghost use Rattle.std.specs.Prelude.{◌≡◌, ◌∷◌, []};
 ghost use Rattle.model.specs.Trace.{line as lineWith};
 ghost use Rattle.text.specs.Laying.{line_of};
