@@ -10,7 +10,7 @@ shift
 made=$(mktemp -d)
 trap 'rm -rf "$made"' EXIT
 rt=$(readlink -f "$(command -v rt)")
-tools=${RATTLE_HOME:-$(dirname "$rt")/..}/on/$(uname -m)/toolchain/bin
+tools=${RATTLE_HOME:-$(dirname "$rt")/..}/toolchain/bin
 for part in "$root/host/c/start.S" "$root/host/c/bare.c" "$@"; do
     "$tools/clang" --target=aarch64-none-elf -mgeneral-regs-only -ffreestanding -fno-builtin -isystem "$(gcc -print-file-name=include)" \
         -I"$root/include" -Wall -Wextra -Werror -O2 -c "$part" -o "$made/$(basename "$part").o"

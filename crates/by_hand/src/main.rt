@@ -6,11 +6,16 @@
 mod twice;
 mod units;
 
-fn main() {
-    units::configurations();
-    units::rings();
-    units::stalled();
-    units::tables();
-    units::row();
-    twice::commands();
+use showing::show::Sheet;
+use std::io;
+
+fn main(rt: HostRuntime) -> io::Result<()> {
+    let mut sheet = Sheet::new(rt.stdout());
+    units::configurations(&mut sheet);
+    units::rings(&mut sheet);
+    units::stalled(&mut sheet);
+    units::tables(&mut sheet);
+    units::row(&mut sheet);
+    twice::commands(&mut sheet);
+    sheet.end()
 }

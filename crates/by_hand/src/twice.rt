@@ -5,7 +5,7 @@ use model::{
     ItsState, LpiId, Translation,
 };
 use showing::guest::fresh;
-use showing::show::{ac, cl, dv, ex, heading, pr, show};
+use showing::show::{Sheet, ac, cl, dv, ex, heading, pr, show};
 use text::Line;
 
 fn device(bits: u8) -> ItsDevice {
@@ -154,11 +154,17 @@ fn line_of(executed: Executed) -> Line {
     }
 }
 
-fn executes(what: &[u8], unit: ItsState, x: Command, expected: Line) -> ItsState {
+fn executes(
+    sheet: &mut Sheet,
+    what: &[u8],
+    unit: ItsState,
+    x: Command,
+    expected: Line,
+) -> ItsState {
     let applied = command::execute(unit, x);
     let executed = applied.executed;
     let came = line_of(executed);
-    show(what, came, expected);
+    show(sheet, what, came, expected);
     let left = applied.unit;
     left
 }
@@ -167,76 +173,88 @@ fn bit(b: bool) -> u64 {
     if b { 1 } else { 0 }
 }
 
-fn shows_device(what: &[u8], unit: ItsState, at: usize, expected: Line) {
+fn shows_device(sheet: &mut Sheet, what: &[u8], unit: ItsState, at: usize, expected: Line) {
     let devices = unit.devices;
     let r = tables::device_at(devices, at);
     let bits = r.event_bits as u64;
     let number = r.device.0 as u64;
-    show(what, dv(bit(r.used), number, bits), expected);
+    show(sheet, what, dv(bit(r.used), number, bits), expected);
 }
 
-fn shows_collection(what: &[u8], unit: ItsState, at: usize, expected: Line) {
+fn shows_collection(sheet: &mut Sheet, what: &[u8], unit: ItsState, at: usize, expected: Line) {
     let collections = unit.collections;
     let r = tables::collection_at(collections, at);
     let number = r.collection.0 as u64;
     let processor = r.target.0 as u64;
-    show(what, cl(bit(r.used), number, processor), expected);
+    show(sheet, what, cl(bit(r.used), number, processor), expected);
 }
 
-fn shows_pair(what: &[u8], unit: ItsState, at: usize, expected: Line) {
+fn shows_pair(sheet: &mut Sheet, what: &[u8], unit: ItsState, at: usize, expected: Line) {
     let translations = unit.translations;
     let r = tables::translation_at(translations, at);
     let event = r.event.0 as u64;
     let lpi = r.lpi.0 as u64;
     let number = r.collection.0 as u64;
-    show(what, pr(bit(r.used), event, lpi, number), expected);
+    show(sheet, what, pr(bit(r.used), event, lpi, number), expected);
 }
 
 // The three records of pairs that the unit above has.
-fn shows_pairs(unit: ItsState, three: Line, seven: Line, nine: Line) {
-    shows_pair(b"  pair in record 3", unit, 3, three);
-    shows_pair(b"  pair in record 7", unit, 7, seven);
-    shows_pair(b"  pair in record 9", unit, 9, nine);
+fn shows_pairs(sheet: &mut Sheet, unit: ItsState, three: Line, seven: Line, nine: Line) {
+    shows_pair(sheet, b"  pair in record 3", unit, 3, three);
+    shows_pair(sheet, b"  pair in record 7", unit, 7, seven);
+    shows_pair(sheet, b"  pair in record 9", unit, 9, nine);
 }
 
-pub fn commands() {
-    counting();
-    refused();
-    stored();
-    moved();
-    discarded();
-    device_dropped();
-    collection_dropped();
-    other_collection_dropped();
-    mapped_in_strict();
+pub fn commands(sheet: &mut Sheet) {
+    counting(sheet);
+    refused(sheet);
+    stored(sheet);
+    moved(sheet);
+    discarded(sheet);
+    device_dropped(sheet);
+    collection_dropped(sheet);
+    other_collection_dropped(sheet);
+    mapped_in_strict(sheet);
 }
 
-fn counting() {
-    heading(b"a unit with device 5, collection 2 and pair (5, 9) twice");
+fn counting(sheet: &mut Sheet) {
+    heading(
+        sheet,
+        b"a unit with device 5, collection 2 and pair (5, 9) twice",
+    );
     let unit = twice();
-    executes(b"INT (5, 9)", unit, int(), ac(1, 8300, 1));
-    executes(b"CLEAR (5, 9)", unit, clear(), ac(1, 8300, 0));
-    executes(b"SYNC", unit, Command::Sync, ex(0));
+    executes(sheet, b"INT (5, 9)", unit, int(), ac(1, 8300, 1));
+    executes(sheet, b"CLEAR (5, 9)", unit, clear(), ac(1, 8300, 0));
+    executes(sheet, b"SYNC", unit, Command::Sync, ex(0));
     let left = executes(
+        sheet,
         b"MAPTI (5, 15), which 4 bits hold",
         unit,
         mapti(15, 8600, 3),
         ex(0),
     );
-    shows_pair(b"  pair in record 0", left, 0, pr(1, 15, 8600, 3));
+    shows_pair(sheet, b"  pair in record 0", left, 0, pr(1, 15, 8600, 3));
 }
 
-fn refused() {
+fn refused(sheet: &mut Sheet) {
     let unit = twice();
     let left = executes(
+        sheet,
         b"MAPTI (5, 16), which 8 bits would hold",
         unit,
         mapti(16, 8600, 3),
         ex(23),
     );
-    shows_pair(b"  pair in record 0", left, 0, pr(0, 0, 0, 0));
-    let stays = executes(b"MOVI (5, 9) to collection 30", unit, movi(30), ex(24));
+    shows_pair(sheet, b"  pair in record 0", left, 0, pr(0, 0, 0, 0));
+    let stays = executes(
+        sheet,
+        b"MOVI (5, 9) to collection 30",
+        unit,
+        movi(30),
+        ex(24),
+    );
     shows_pairs(
+        sheet,
         stays,
         pr(1, 9, 8300, 2),
         pr(1, 9, 8400, 3),
@@ -244,87 +262,127 @@ fn refused() {
     );
 }
 
-fn stored() {
+fn stored(sheet: &mut Sheet) {
     let unit = twice();
-    let bits = executes(b"MAPD 5 with 2 bits", unit, mapd(2, true), ex(0));
-    shows_device(b"  device in record 1", bits, 1, dv(1, 5, 2));
-    shows_device(b"  device in record 4", bits, 4, dv(1, 5, 8));
-    let target = executes(b"MAPC 2 to processor 0", unit, mapc(2, 0, true), ex(0));
-    shows_collection(b"  collection in record 2", target, 2, cl(1, 2, 0));
-    shows_collection(b"  collection in record 6", target, 6, cl(1, 2, 7));
+    let bits = executes(sheet, b"MAPD 5 with 2 bits", unit, mapd(2, true), ex(0));
+    shows_device(sheet, b"  device in record 1", bits, 1, dv(1, 5, 2));
+    shows_device(sheet, b"  device in record 4", bits, 4, dv(1, 5, 8));
+    let target = executes(
+        sheet,
+        b"MAPC 2 to processor 0",
+        unit,
+        mapc(2, 0, true),
+        ex(0),
+    );
+    shows_collection(sheet, b"  collection in record 2", target, 2, cl(1, 2, 0));
+    shows_collection(sheet, b"  collection in record 6", target, 6, cl(1, 2, 7));
     let lpi = executes(
+        sheet,
         b"MAPTI (5, 9) as 8700 in collection 3",
         unit,
         mapti(9, 8700, 3),
         ex(0),
     );
-    shows_pairs(lpi, pr(1, 9, 8700, 3), pr(1, 9, 8400, 3), pr(1, 1, 8500, 3));
+    shows_pairs(
+        sheet,
+        lpi,
+        pr(1, 9, 8700, 3),
+        pr(1, 9, 8400, 3),
+        pr(1, 1, 8500, 3),
+    );
 }
 
-fn moved() {
+fn moved(sheet: &mut Sheet) {
     let unit = twice();
-    let left = executes(b"MOVI (5, 9) to collection 3", unit, movi(3), ex(0));
+    let left = executes(sheet, b"MOVI (5, 9) to collection 3", unit, movi(3), ex(0));
     shows_pairs(
+        sheet,
         left,
         pr(1, 9, 8300, 3),
         pr(1, 9, 8400, 3),
         pr(1, 1, 8500, 3),
     );
-    executes(b"  INT (5, 9) then", left, int(), ac(0, 8300, 1));
+    executes(sheet, b"  INT (5, 9) then", left, int(), ac(0, 8300, 1));
 }
 
-fn discarded() {
+fn discarded(sheet: &mut Sheet) {
     let unit = twice();
-    let left = executes(b"DISCARD (5, 9)", unit, discard(), ex(0));
-    shows_pairs(left, pr(0, 0, 0, 0), pr(0, 0, 0, 0), pr(1, 1, 8500, 3));
-    executes(b"  INT (5, 9) then", left, int(), ex(8));
-    executes(b"  DISCARD (5, 9) then", left, discard(), ex(25));
+    let left = executes(sheet, b"DISCARD (5, 9)", unit, discard(), ex(0));
+    shows_pairs(
+        sheet,
+        left,
+        pr(0, 0, 0, 0),
+        pr(0, 0, 0, 0),
+        pr(1, 1, 8500, 3),
+    );
+    executes(sheet, b"  INT (5, 9) then", left, int(), ex(8));
+    executes(sheet, b"  DISCARD (5, 9) then", left, discard(), ex(25));
 }
 
-fn device_dropped() {
+fn device_dropped(sheet: &mut Sheet) {
     let unit = twice();
-    let left = executes(b"MAPD 5, V=0", unit, mapd(1, false), ex(0));
-    shows_device(b"  device in record 1", left, 1, dv(0, 0, 0));
-    shows_device(b"  device in record 4", left, 4, dv(0, 0, 0));
-    shows_pairs(left, pr(0, 0, 0, 0), pr(0, 0, 0, 0), pr(0, 0, 0, 0));
+    let left = executes(sheet, b"MAPD 5, V=0", unit, mapd(1, false), ex(0));
+    shows_device(sheet, b"  device in record 1", left, 1, dv(0, 0, 0));
+    shows_device(sheet, b"  device in record 4", left, 4, dv(0, 0, 0));
+    shows_pairs(sheet, left, pr(0, 0, 0, 0), pr(0, 0, 0, 0), pr(0, 0, 0, 0));
 }
 
 // The pair (5, 9) is in collection 2, as the record that counts says: it goes with that collection, both records of it.
-fn collection_dropped() {
+fn collection_dropped(sheet: &mut Sheet) {
     let unit = twice();
-    let left = executes(b"MAPC 2, V=0", unit, mapc(2, 0, false), ex(0));
-    shows_collection(b"  collection in record 2", left, 2, cl(0, 0, 0));
-    shows_collection(b"  collection in record 3", left, 3, cl(1, 3, 0));
-    shows_collection(b"  collection in record 6", left, 6, cl(0, 0, 0));
-    shows_pairs(left, pr(0, 0, 0, 0), pr(0, 0, 0, 0), pr(1, 1, 8500, 3));
+    let left = executes(sheet, b"MAPC 2, V=0", unit, mapc(2, 0, false), ex(0));
+    shows_collection(sheet, b"  collection in record 2", left, 2, cl(0, 0, 0));
+    shows_collection(sheet, b"  collection in record 3", left, 3, cl(1, 3, 0));
+    shows_collection(sheet, b"  collection in record 6", left, 6, cl(0, 0, 0));
+    shows_pairs(
+        sheet,
+        left,
+        pr(0, 0, 0, 0),
+        pr(0, 0, 0, 0),
+        pr(1, 1, 8500, 3),
+    );
 }
 
 // And stays where collection 3 goes, which only its second record names.
-fn other_collection_dropped() {
+fn other_collection_dropped(sheet: &mut Sheet) {
     let unit = twice();
-    let left = executes(b"MAPC 3, V=0", unit, mapc(3, 0, false), ex(0));
-    shows_collection(b"  collection in record 2", left, 2, cl(1, 2, 1));
-    shows_collection(b"  collection in record 3", left, 3, cl(0, 0, 0));
-    shows_collection(b"  collection in record 6", left, 6, cl(1, 2, 7));
-    shows_pairs(left, pr(1, 9, 8300, 2), pr(1, 9, 8400, 3), pr(0, 0, 0, 0));
+    let left = executes(sheet, b"MAPC 3, V=0", unit, mapc(3, 0, false), ex(0));
+    shows_collection(sheet, b"  collection in record 2", left, 2, cl(1, 2, 1));
+    shows_collection(sheet, b"  collection in record 3", left, 3, cl(0, 0, 0));
+    shows_collection(sheet, b"  collection in record 6", left, 6, cl(1, 2, 7));
+    shows_pairs(
+        sheet,
+        left,
+        pr(1, 9, 8300, 2),
+        pr(1, 9, 8400, 3),
+        pr(0, 0, 0, 0),
+    );
 }
 
 // In strict a valid MAPD of a mapped device drops every record of its pairs, and then stores. Of a device that is not mapped it only stores.
-fn mapped_in_strict() {
+fn mapped_in_strict(sheet: &mut Sheet) {
     let unit = strictly(twice());
-    let again = executes(b"in strict, MAPD 5 with 2 bits", unit, mapd(2, true), ex(0));
-    shows_device(b"  device in record 1", again, 1, dv(1, 5, 2));
-    shows_device(b"  device in record 4", again, 4, dv(1, 5, 8));
-    shows_pairs(again, pr(0, 0, 0, 0), pr(0, 0, 0, 0), pr(0, 0, 0, 0));
+    let again = executes(
+        sheet,
+        b"in strict, MAPD 5 with 2 bits",
+        unit,
+        mapd(2, true),
+        ex(0),
+    );
+    shows_device(sheet, b"  device in record 1", again, 1, dv(1, 5, 2));
+    shows_device(sheet, b"  device in record 4", again, 4, dv(1, 5, 8));
+    shows_pairs(sheet, again, pr(0, 0, 0, 0), pr(0, 0, 0, 0), pr(0, 0, 0, 0));
     let bare = without_device(unit);
     let first = executes(
+        sheet,
         b"in strict, MAPD 5 where it is not mapped",
         bare,
         mapd(2, true),
         ex(0),
     );
-    shows_device(b"  device in record 0", first, 0, dv(1, 5, 2));
+    shows_device(sheet, b"  device in record 0", first, 0, dv(1, 5, 2));
     shows_pairs(
+        sheet,
         first,
         pr(1, 9, 8300, 2),
         pr(1, 9, 8400, 3),

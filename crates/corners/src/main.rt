@@ -4,10 +4,15 @@
 
 mod paper;
 
-fn main() {
-    paper::registers();
-    paper::rings();
-    paper::mappings();
-    paper::queue();
-    paper::tempting();
+use showing::show::Sheet;
+use std::io;
+
+fn main(rt: HostRuntime) -> io::Result<()> {
+    let mut sheet = Sheet::new(rt.stdout());
+    paper::registers(&mut sheet);
+    paper::rings(&mut sheet);
+    paper::mappings(&mut sheet);
+    paper::queue(&mut sheet);
+    paper::tempting(&mut sheet);
+    sheet.end()
 }

@@ -3,10 +3,11 @@ use showing::guest::{
     BASER, CBASER, CREADR, CWRITER, TYPER, enabled, example, fresh, put_command, put_example,
     reads, set, translates, write, writes,
 };
-use showing::show::{ac, rd, show, tr, wr};
+use showing::show::{Sheet, ac, rd, show, tr, wr};
 
-pub fn registers() {
+pub fn registers(sheet: &mut Sheet) {
     reads(
+        sheet,
         b"P1 TYPER, limit 65535",
         fresh(65535),
         TYPER,
@@ -14,6 +15,7 @@ pub fn registers() {
         rd(0, 0x1ef71),
     );
     reads(
+        sheet,
         b"P2 TYPER, limit 8192",
         fresh(8192),
         TYPER,
@@ -23,6 +25,7 @@ pub fn registers() {
     let page = [5u8; 4096];
     let unit = set(fresh(65535), &page, BASER, 8, 0xffff_ffff_ffff_ffff);
     reads(
+        sheet,
         b"P8 all ones into BASER 0",
         unit,
         BASER,
@@ -31,10 +34,11 @@ pub fn registers() {
     );
 }
 
-pub fn rings() {
+pub fn rings(sheet: &mut Sheet) {
     let page = [5u8; 4096];
     let large = set(fresh(65535), &page, CBASER, 8, 0x10ff);
     let left = writes(
+        sheet,
         b"P3 256 pages, CWRITER 0xFFFE0",
         large,
         &page,
@@ -42,8 +46,9 @@ pub fn rings() {
         0xfffe0,
         wr(0, 0, 0, 0, 0),
     );
-    reads(b"P3 CWRITER then", left, CWRITER, 8, rd(0, 0xfffe0));
+    reads(sheet, b"P3 CWRITER then", left, CWRITER, 8, rd(0, 0xfffe0));
     writes(
+        sheet,
         b"P4 CBASER 0x8000000000000000",
         fresh(65535),
         &page,
@@ -51,8 +56,9 @@ pub fn rings() {
         0x8000_0000_0000_0000,
         wr(4, 0, 0, 0, 0),
     );
-    one_page();
+    one_page(sheet);
     writes(
+        sheet,
         b"P6 fresh, CWRITER 32",
         fresh(65535),
         &page,
@@ -61,6 +67,7 @@ pub fn rings() {
         wr(7, 0, 32, 0, 0),
     );
     writes(
+        sheet,
         b"P6 fresh, CWRITER 0",
         fresh(65535),
         &page,
@@ -68,13 +75,14 @@ pub fn rings() {
         0,
         wr(0, 0, 0, 0, 0),
     );
-    two_wait();
+    two_wait(sheet);
 }
 
-fn one_page() {
+fn one_page(sheet: &mut Sheet) {
     let page = [5u8; 4096];
     let one = set(fresh(65535), &page, CBASER, 8, 0x1000);
     writes(
+        sheet,
         b"P5 one page, CWRITER 0xFE0",
         one,
         &page,
@@ -83,6 +91,7 @@ fn one_page() {
         wr(0, 0, 0, 0, 0),
     );
     writes(
+        sheet,
         b"P5 one page, CWRITER 0x1000",
         one,
         &page,
@@ -91,6 +100,7 @@ fn one_page() {
         wr(7, 0, 4096, 0, 0),
     );
     let left = writes(
+        sheet,
         b"P5 one page, CWRITER 0x100020",
         one,
         &page,
@@ -98,16 +108,17 @@ fn one_page() {
         0x10_0020,
         wr(0, 0, 0, 0, 0),
     );
-    reads(b"P5 CWRITER then", left, CWRITER, 8, rd(0, 0x20));
+    reads(sheet, b"P5 CWRITER then", left, CWRITER, 8, rd(0, 0x20));
 }
 
 // The ring is full of SYNC. Two writes of at most 64 commands bring the reader to 4064.
-fn two_wait() {
+fn two_wait(sheet: &mut Sheet) {
     let page = [5u8; 4096];
     let unit = set(enabled(&page, 65535), &page, CWRITER, 8, 2048);
     let last = set(unit, &page, CWRITER, 8, 4064);
-    reads(b"P7 one page, CREADR", last, CREADR, 8, rd(0, 4064));
+    reads(sheet, b"P7 one page, CREADR", last, CREADR, 8, rd(0, 4064));
     let left = writes(
+        sheet,
         b"P7 writer 32: two wait and are done",
         last,
         &page,
@@ -115,22 +126,23 @@ fn two_wait() {
         32,
         wr(0, 0, 0, 2, 0),
     );
-    reads(b"P7 CREADR then", left, CREADR, 8, rd(0, 32));
+    reads(sheet, b"P7 CREADR then", left, CREADR, 8, rd(0, 32));
 }
 
-pub fn mappings() {
-    four_bits();
-    all_bits();
-    limits();
-    second_mapd();
+pub fn mappings(sheet: &mut Sheet) {
+    four_bits(sheet);
+    all_bits(sheet);
+    limits(sheet);
+    second_mapd(sheet);
 }
 
-fn four_bits() {
+fn four_bits(sheet: &mut Sheet) {
     let mut page = [5u8; 4096];
     put_example(&mut page);
     let unit = example(&page);
     put_command(&mut page, 4, 0x5_0000_000a, 0x2009_0000_000f, 2);
     let left = writes(
+        sheet,
         b"P9 4 bits, MAPTI of event 15",
         unit,
         &page,
@@ -138,9 +150,10 @@ fn four_bits() {
         160,
         wr(0, 0, 0, 1, 0),
     );
-    translates(b"P9 event 15", left, 5, 15, tr(0, 8201, 1));
+    translates(sheet, b"P9 event 15", left, 5, 15, tr(0, 8201, 1));
     put_command(&mut page, 4, 0x5_0000_000a, 0x2009_0000_0010, 2);
     writes(
+        sheet,
         b"P9 4 bits, MAPTI of event 16",
         unit,
         &page,
@@ -150,13 +163,14 @@ fn four_bits() {
     );
 }
 
-fn all_bits() {
+fn all_bits(sheet: &mut Sheet) {
     let mut page = [5u8; 4096];
     put_example(&mut page);
     put_command(&mut page, 0, 0x5_0000_0008, 31, 0x8000_0000_0000_0000);
     let unit = example(&page);
     put_command(&mut page, 4, 0x5_0000_000a, 0x2009_ffff_ffff, 2);
     let left = writes(
+        sheet,
         b"P9 32 bits, MAPTI of event 0xFFFFFFFF",
         unit,
         &page,
@@ -164,15 +178,23 @@ fn all_bits() {
         160,
         wr(0, 0, 0, 1, 0),
     );
-    translates(b"P9 event 0xFFFFFFFF", left, 5, 0xffff_ffff, tr(0, 8201, 1));
+    translates(
+        sheet,
+        b"P9 event 0xFFFFFFFF",
+        left,
+        5,
+        0xffff_ffff,
+        tr(0, 8201, 1),
+    );
 }
 
-fn lpi(what: &[u8], w1: u64, refusal: u64, opcode: u64, offset: u64, done: u64) {
+fn lpi(sheet: &mut Sheet, what: &[u8], w1: u64, refusal: u64, opcode: u64, offset: u64, done: u64) {
     let mut page = [5u8; 4096];
     put_example(&mut page);
     let unit = example(&page);
     put_command(&mut page, 4, 0x5_0000_000a, w1, 2);
     writes(
+        sheet,
         what,
         unit,
         &page,
@@ -182,10 +204,27 @@ fn lpi(what: &[u8], w1: u64, refusal: u64, opcode: u64, offset: u64, done: u64) 
     );
 }
 
-fn limits() {
-    lpi(b"P10 MAPTI to LPI 8191", 0x1fff_0000_0001, 21, 10, 128, 0);
-    lpi(b"P10 MAPTI to LPI 8192", 0x2000_0000_0001, 0, 0, 0, 1);
+fn limits(sheet: &mut Sheet) {
     lpi(
+        sheet,
+        b"P10 MAPTI to LPI 8191",
+        0x1fff_0000_0001,
+        21,
+        10,
+        128,
+        0,
+    );
+    lpi(
+        sheet,
+        b"P10 MAPTI to LPI 8192",
+        0x2000_0000_0001,
+        0,
+        0,
+        0,
+        1,
+    );
+    lpi(
+        sheet,
         b"P10 MAPTI to the limit, 65535",
         0xffff_0000_0001,
         0,
@@ -194,6 +233,7 @@ fn limits() {
         1,
     );
     lpi(
+        sheet,
         b"P10 MAPTI to the limit + 1",
         0x1_0000_0000_0001,
         21,
@@ -203,12 +243,13 @@ fn limits() {
     );
 }
 
-fn second_mapd() {
+fn second_mapd(sheet: &mut Sheet) {
     let mut page = [5u8; 4096];
     put_example(&mut page);
     let unit = example(&page);
     put_command(&mut page, 4, 0x5_0000_0008, 0, 0x8000_0000_0000_0000);
     let left = writes(
+        sheet,
         b"P11 after the example, MAPD 5 with 1 bit",
         unit,
         &page,
@@ -216,9 +257,10 @@ fn second_mapd() {
         160,
         wr(0, 0, 0, 1, 0),
     );
-    translates(b"P11 (5, 9) still", left, 5, 9, tr(0, 8200, 1));
+    translates(sheet, b"P11 (5, 9) still", left, 5, 9, tr(0, 8200, 1));
     put_command(&mut page, 5, 0x5_0000_000a, 0x2008_0000_0009, 2);
     writes(
+        sheet,
         b"P11 a new MAPTI of it",
         left,
         &page,
@@ -228,10 +270,11 @@ fn second_mapd() {
     );
 }
 
-pub fn queue() {
+pub fn queue(sheet: &mut Sheet) {
     let page = [5u8; 4096];
     let unit = enabled(&page, 65535);
     writes(
+        sheet,
         b"budget 64: 64 commands",
         unit,
         &page,
@@ -240,6 +283,7 @@ pub fn queue() {
         wr(0, 0, 0, 64, 0),
     );
     writes(
+        sheet,
         b"budget 64: 65 commands",
         unit,
         &page,
@@ -247,10 +291,10 @@ pub fn queue() {
         2080,
         wr(5, 0, 0, 0, 0),
     );
-    refused_after_int();
+    refused_after_int(sheet);
 }
 
-fn refused_after_int() {
+fn refused_after_int(sheet: &mut Sheet) {
     let mut page = [5u8; 4096];
     put_example(&mut page);
     put_command(&mut page, 4, 0x5_0000_0003, 9, 0);
@@ -260,12 +304,14 @@ fn refused_after_int() {
     let answer = w.answer;
     let row = w.row;
     show(
+        sheet,
         b"after the example, INT (5, 9) and opcode 0E",
         text::lines::of_write(answer),
         wr(20, 14, 160, 1, 1),
     );
     let action = row[0];
     show(
+        sheet,
         b"the INT's action, handed over all the same",
         text::lines::of_action(action),
         ac(1, 8200, 1),
@@ -273,18 +319,19 @@ fn refused_after_int() {
 }
 
 // "Tempting and wrong", where the corners above do not show it.
-pub fn tempting() {
-    movi_order();
-    first_name();
+pub fn tempting(sheet: &mut Sheet) {
+    movi_order(sheet);
+    first_name(sheet);
 }
 
 // Neither the collection nor the pair is mapped: the number tells which was tested first.
-fn movi_order() {
+fn movi_order(sheet: &mut Sheet) {
     let mut page = [5u8; 4096];
     put_example(&mut page);
     let unit = example(&page);
     put_command(&mut page, 4, 0x5_0000_0001, 8, 3);
     writes(
+        sheet,
         b"MOVI of no pair to no collection",
         unit,
         &page,
@@ -295,7 +342,7 @@ fn movi_order() {
 }
 
 // MAPC 3 to processor 0, MOVI (5, 9) to it, then the drop of collection 2 and that of 3.
-fn first_name() {
+fn first_name(sheet: &mut Sheet) {
     let mut page = [5u8; 4096];
     put_example(&mut page);
     put_command(&mut page, 4, 0x9, 0, 0x8000_0000_0000_0003);
@@ -305,6 +352,7 @@ fn first_name() {
     let unit = example(&page);
     let first = set(unit, &page, CWRITER, 8, 224);
     translates(
+        sheet,
         b"after MOVI to 3, collection 2 dropped",
         first,
         5,
@@ -312,5 +360,5 @@ fn first_name() {
         tr(0, 8200, 0),
     );
     let second = set(first, &page, CWRITER, 8, 256);
-    translates(b"collection 3 dropped", second, 5, 9, tr(8, 0, 0));
+    translates(sheet, b"collection 3 dropped", second, 5, 9, tr(8, 0, 0));
 }

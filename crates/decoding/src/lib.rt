@@ -102,6 +102,7 @@ pub fn command_at(address: u64, bytes: &[u8], wanted: u64) -> CommandRead
 }
 
 // One of the kinds of commands, or unknown.
+#[tactic(auto, unfolding(model::specs::Decode::decode))]
 pub fn decode(words: [u64; 4]) -> Decoded
     ensures { result ≡ decodeOf words }
 {

@@ -1,5 +1,5 @@
 -- Document 01, "How firm each answer is": every public entry has a contract that determines its answer, the next unit and the row for all inputs,
--- refusals included. The predicates are those that the entries' `ensures` name (crates/its/specs/Contracts.antt,
+-- refusals included. The predicates are those that the entries' `ensures` name (crates/its/specs/Promises.antt,
 -- crates/trace/specs/Traced.antt, crates/host/specs/Calls.antt).
 -- Assumes nothing.
 use Rattle.std.specs.Prelude.{ℕ, ◌≡◌, List}

@@ -1,6 +1,6 @@
 -- DEMAND 3 over the contracts of the public entries, of a unit of either profile: from a unit that was configured, whatever accesses follow, a device and event translate exactly
 -- when the commands carried out so far put that pair in force, and to the LPI and processor that those commands give. Nothing here speaks of a
--- definition of an access: each access is any answer that meets the entry's contract (crates/its/specs/Contracts.antt).
+-- definition of an access: each access is any answer that meets the entry's contract (crates/its/specs/Promises.antt).
 -- Assumes nothing.
 use Rattle.std.specs.Prelude.{ℕ, ◌≤◌, ◌<◌, ◌≡◌, true, List, [], ◌++◌, ◌↔◌}
 use Rattle.model.specs.declared.ItsDeviceId.{ItsDeviceId}

@@ -1,4 +1,4 @@
--- ALL THAT IS GUARANTEED of the public entries, in one place: each field is a theorem over their contracts (crates/its/specs/Contracts.antt,
+-- ALL THAT IS GUARANTEED of the public entries, in one place: each field is a theorem over their contracts (crates/its/specs/Promises.antt,
 -- crates/host/specs/Calls.antt), for all inputs. What a theorem concludes is said in the file that it is taken from. proofs/All.antt holds them all.
 -- Assumes nothing.
 use Rattle.std.specs.Prelude.{ℕ, ◌+◌, ◌≤◌, ◌<◌, ◌≡◌, Bool, true, false, List, [], ◌∷◌, ◌++◌, map, ◌⊎◌, ◌↔◌, take, drop}
@@ -77,8 +77,8 @@ pub record Theorems : Type 0 where
       (r ≡ returned_with (trace_lines_in01 trace) out) × (left ≡ output_with (trace_lines_in01 trace) out)
   -- A STRICT UNIT BESIDE 01'S (Profiles): what it reads, stores and lets run, of every unit of that profile
   pub strict_as_01 : (u : ItsState) → profile_of u.config ≡ strict → StrictAs01 u
-  -- STRICT: while bit 63 of CBASER is 0 the queue runs nothing and there is no 5 (Profiles), on every unit. (A valid MAPD: mappings-in-force; device too
-  -- large: refused-because)
+  -- STRICT: while bit 63 of CBASER is 0 the queue runs nothing and there is no 5 (Profiles), on every unit. (A valid MAPD: mappings_in_force; device too
+  -- large: refused_because)
   pub held_stores : OfEveryWrite (λ w row u offset width value r left. profile_of u.config ≡ strict → (stores row u offset width value).runs ≡ true →
       CBASER_Valid of (stores row u offset width value).registers.cbaser ≡ 0 → OnlyStores row u (stores row u offset width value) r left)
   -- STRICT: a stalled unit runs nothing either, and there is no 5, but for a CWRITER write with Retry (02, A4)

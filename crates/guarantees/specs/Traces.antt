@@ -1,5 +1,5 @@
 -- Document 02, A3 and A4, over whole traces: the bytes of a trace read as records, and the lines of these, one record after the other. (That the lines of a trace,
--- model: Trace.trace_lines, are these lines: proofs/Traces.by-records.)
+-- model: Trace.trace_lines, are these lines: proofs/Traces.by_records.)
 -- Assumes nothing.
 use Rattle.std.specs.Prelude.{ℕ, zero, suc, ◌+◌, ◌≡◌, List, [], ◌∷◌, ◌++◌, map, length, drop}
 use Rattle.model.specs.With.{with_profile}

@@ -1,6 +1,6 @@
-// The unit for a host: C calls over a unit that the host owns as numbers (specs/Numbers.antt of crate `lent_tables`), with the window and the row as
-// pointer and length. Each call puts the numbers of its answer, those of the line that `itstrace` would write, into `told`, and returns the
-// first of them, the refusal. What each promises is said in specs/Calls.antt.
+// The unit for a host: calls over a unit that the host owns as numbers (specs/Numbers.antt of crate `lent_tables`), with the window and the row lent.
+// Each call puts the numbers of its answer, those of the line that `itstrace` would write, into `told`, and returns the first of them, the
+// refusal. What each promises is said in specs/Calls.antt. Crate `host_c` exports them as C calls.
 #![tactic(auto)]
 
 ghost use Rattle.std.specs.Prelude.{◌≡◌, length};
@@ -120,8 +120,7 @@ fn limit_given(settings: &[u32]) -> u32
     0
 }
 
-#[unsafe(no_mangle)]
-pub extern "C" fn its_configure(
+pub fn its_configure(
     state: &mut Numbers,
     settings: &[u32],
     processors: &[u16],
@@ -148,8 +147,7 @@ pub extern "C" fn its_configure(
     tell(told, [n, 0, 0, 0, 0])
 }
 
-#[unsafe(no_mangle)]
-pub extern "C" fn its_read(state: &Numbers, offset: u64, width: u8, told: &mut [u64; 5]) -> u64
+pub fn its_read(state: &Numbers, offset: u64, width: u8, told: &mut [u64; 5]) -> u64
     ensures { CallReads (unit_in state.now) offset width result told.new }
 {
     let config = lent_tables::config_in(state);
@@ -191,8 +189,7 @@ fn write(
     w.answer
 }
 
-#[unsafe(no_mangle)]
-pub extern "C" fn its_write(
+pub fn its_write(
     state: &mut Numbers,
     address: u64,
     bytes: &[u8],
@@ -221,13 +218,7 @@ fn translate(state: &Numbers, device: ItsDeviceId, event: EventId) -> TranslateA
     lent_command::pairs::deliver(state, device, event)
 }
 
-#[unsafe(no_mangle)]
-pub extern "C" fn its_translate(
-    state: &Numbers,
-    device: u32,
-    event: u32,
-    told: &mut [u64; 5],
-) -> u64
+pub fn its_translate(state: &Numbers, device: u32, event: u32, told: &mut [u64; 5]) -> u64
     ensures { CallTranslates (unit_in state.now) device event result told.new }
 {
     let answer = translate(state, ItsDeviceId(device), EventId(event));

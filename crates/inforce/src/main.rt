@@ -4,11 +4,12 @@
 mod lines;
 mod runs;
 
-ghost use Rattle.std.specs.Prelude.{◌≡◌, false, ◌≤◌, length, take, get_or, eqb};
+ghost use Rattle.std.specs.Prelude.{◌≡◌, false, ◌≤◌, length, take, get_or, eqb, IfOk};
 ghost use Rattle.text.specs.Laying.{output, lay_all};
 ghost use Rattle.inforce.specs.Shown.{shown_lines, shown};
 
-use libc::{STDIN_FILENO, STDOUT_FILENO};
+use std::io;
+use std::io::Read;
 use text::Laid;
 
 // Whether the mappings are asked for after each record.
@@ -51,10 +52,25 @@ fn print(input: &[u8], out: &mut [u8]) -> usize
     laid.at
 }
 
-fn main() {
+// Reads until the room is full or the input ends. It answers how many bytes there are.
+fn read_full(from: &mut impl Read, room: &mut [u8]) -> io::Result<usize>
+    ensures { IfOk result (λ n. n ≤ length room.new) }
+{
+    let mut at = 0;
+    while at < room.len() {
+        let n = from.read(&mut room[at..])?;
+        if n == 0 {
+            break;
+        }
+        at += n;
+    }
+    Ok(at)
+}
+
+fn main(rt: HostRuntime) -> io::Result<()> {
     let mut input = [0u8; 32769];
-    let n = io::read_full(STDIN_FILENO, &mut input);
+    let n = read_full(&mut rt.stdin(), &mut input)?;
     let mut out = [0u8; 65536];
     let k = print(&input[..n], &mut out);
-    io::write_all(STDOUT_FILENO, &out[..k]);
+    rt.write_all(&out[..k])
 }

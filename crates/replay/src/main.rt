@@ -5,9 +5,13 @@
 // Every function here is proved safe and ending, and no more: a step that is guarded by its own tests needs no invariant of the loop around it.
 #![tactic(auto)]
 
-ghost use Rattle.io.specs.Counts.{IsPrefixLen};
+ghost use Rattle.std.specs.Prelude.{◌≡◌, ◌≤◌, length, take};
 
-use libc::STDOUT_FILENO;
+use std::env::{Env, FillError};
+use std::fs::File;
+use std::io;
+use std::io::Read;
+use std::rt::Files;
 
 #[derive(Clone, Copy)]
 struct Tally {
@@ -27,22 +31,61 @@ struct Reached {
     differ: bool,
 }
 
-// Reads the file that an argument names, as far as there is room.
-fn read_named(argument: usize, room: &mut [u8]) -> usize
-    ensures { IsPrefixLen result room.new }
+// Puts an argument at the start of the room and answers how many bytes it has: none where it is missing, or longer than the room.
+fn argument_bytes(rt: &impl Env, argument: usize, room: &mut [u8]) -> usize
+    ensures { result ≤ length room.new }
 {
-    let mut name = io::buffer();
-    let n = os::arg(argument, &mut name);
-    let file = os::open_read(&name[..n]);
-    let count = io::read_full(file, room);
-    libc::close(file);
-    count
+    rt.arg(argument, room).unwrap_or(0)
 }
 
-fn print_named(argument: usize) {
-    let mut name = io::buffer();
-    let n = os::arg(argument, &mut name);
-    io::write_all(STDOUT_FILENO, &name[..n]);
+// How many arguments there are, the program's own name among them.
+fn argument_count(rt: &impl Env) -> usize {
+    let mut name = [0u8; 4096];
+    for i in 0..usize::MAX {
+        if matches!(rt.arg(i, &mut name), Err(FillError::NotPresent)) {
+            return i;
+        }
+    }
+    usize::MAX
+}
+
+// A path is text here: a name that is none counts as a file that is not there.
+fn open_named<R: Files>(rt: &R, name: &[u8]) -> Option<R::File> {
+    let path = std::str::from_utf8(name).ok()?;
+    File::open(rt, path).ok()
+}
+
+// Reads until the room is full, the input ends or a read fails. It answers how many bytes there are.
+fn read_full(from: &mut impl Read, room: &mut [u8]) -> usize
+    ensures { (result ≤ length room.new) × (result ≡ length (take result room.new)) }
+{
+    let mut at = 0;
+    while at < room.len() {
+        let n = from.read(&mut room[at..]).unwrap_or(0);
+        if n == 0 {
+            break;
+        }
+        at += n;
+    }
+    at
+}
+
+// Reads the file that an argument names, as far as there is room. A file that does not open has no bytes.
+fn read_named(rt: &(impl Env + Files), argument: usize, room: &mut [u8]) -> usize
+    ensures { (result ≤ length room.new) × (result ≡ length (take result room.new)) }
+{
+    let mut name = [0u8; 4096];
+    let n = argument_bytes(rt, argument, &mut name);
+    match open_named(rt, &name[..n]) {
+        Some(mut file) => read_full(&mut file, room),
+        None => 0,
+    }
+}
+
+fn print_named(rt: &(impl Env + Print), argument: usize) -> io::Result<()> {
+    let mut name = [0u8; 4096];
+    let n = argument_bytes(rt, argument, &mut name);
+    rt.write_all(&name[..n])
 }
 
 // One byte further, where both have one and they are the same.
@@ -113,19 +156,18 @@ fn line_end(bytes: &[u8], from: usize) -> usize {
     end
 }
 
-fn print_line(bytes: &[u8], from: usize) {
+fn print_line(rt: &impl Print, bytes: &[u8], from: usize) -> io::Result<()> {
     let end = line_end(bytes, from);
     if bytes.len() < end {
-        return;
+        return Ok(());
     }
     if end < from {
-        return;
+        return Ok(());
     }
     if from == end {
-        io::write_all(STDOUT_FILENO, b"no line");
-        return;
+        return rt.write_all(b"no line");
     }
-    io::write_all(STDOUT_FILENO, &bytes[from..end]);
+    rt.write_all(&bytes[from..end])
 }
 
 fn has(bytes: &[u8], at: usize, byte: u8) -> bool {
@@ -159,66 +201,77 @@ fn as_expected(lines: &[u8], expected: &[u8], r: Reached) -> bool {
     (lines.len() == r.at) | is_nine(expected, r.before)
 }
 
-fn report(argument: usize, lines: &[u8], expected: &[u8], r: Reached) {
-    print_named(argument);
-    io::write_all(STDOUT_FILENO, b": line ");
-    io::print_decimal(STDOUT_FILENO, std::num::wrapping_add_u64(r.lines, 1));
-    io::write_all(STDOUT_FILENO, b" is `");
-    print_line(lines, r.start);
-    io::write_all(STDOUT_FILENO, b"`, expected `");
-    print_line(expected, r.start);
-    io::write_all(STDOUT_FILENO, b"`\n");
+fn report(
+    rt: &(impl Env + Print),
+    argument: usize,
+    lines: &[u8],
+    expected: &[u8],
+    r: Reached,
+) -> io::Result<()> {
+    print_named(rt, argument)?;
+    rt.write_all(b": line ")?;
+    rt.print(std::num::wrapping_add_u64(r.lines, 1))?;
+    rt.write_all(b" is `")?;
+    print_line(rt, lines, r.start)?;
+    rt.write_all(b"`, expected `")?;
+    print_line(rt, expected, r.start)?;
+    rt.write_all(b"`\n")
 }
 
-fn compare(argument: usize, lines: &[u8], expected: &[u8], tally: Tally) -> Tally {
+fn compare(
+    rt: &(impl Env + Print),
+    argument: usize,
+    lines: &[u8],
+    expected: &[u8],
+    tally: Tally,
+) -> io::Result<Tally> {
     let r = agreeing(expected, lines);
     let mut next = tally;
     next.lines = std::num::wrapping_add_u64(tally.lines, r.lines);
     // An empty file would agree with everything.
     if (expected.len() > 0) & as_expected(lines, expected, r) {
         next.traces = std::num::wrapping_add_u64(tally.traces, 1);
-        return next;
+        return Ok(next);
     }
-    report(argument, lines, expected, r);
+    report(rt, argument, lines, expected, r)?;
     next.other = std::num::wrapping_add_u64(tally.other, 1);
-    next
+    Ok(next)
 }
 
 // The trace that an argument names, and the lines that the next one names.
-fn replay(argument: usize, tally: Tally) -> Tally {
-    let mut trace = io::large_buffer();
-    let n = read_named(argument, &mut trace);
-    let mut expected = io::large_buffer();
-    let m = read_named(std::num::wrapping_add_usize(argument, 1), &mut expected);
-    let mut out = io::large_buffer();
+fn replay(rt: &(impl Env + Files + Print), argument: usize, tally: Tally) -> io::Result<Tally> {
+    let mut trace = [0u8; 65536];
+    let n = read_named(rt, argument, &mut trace);
+    let mut expected = [0u8; 65536];
+    let m = read_named(rt, std::num::wrapping_add_usize(argument, 1), &mut expected);
+    let mut out = [0u8; 65536];
     let number = trace::run_trace(&trace[..n], &mut out);
-    let bytes = (number / 16) as isize;
-    let k = io::count(bytes, &out);
-    compare(argument, &out[..k], &expected[..m], tally)
+    let k = ((number / 16) as usize).min(out.len());
+    compare(rt, argument, &out[..k], &expected[..m], tally)
 }
 
-fn replay_all() -> Tally {
+fn replay_all(rt: &(impl Env + Files + Print)) -> io::Result<Tally> {
     let mut tally = Tally {
         traces: 0,
         lines: 0,
         other: 0,
     };
     let mut argument: usize = 1;
-    let mut left = os::arg_count() / 2;
+    let mut left = argument_count(rt) / 2;
     while left > 0 {
         left -= 1;
-        tally = replay(argument, tally);
+        tally = replay(rt, argument, tally)?;
         argument = std::num::wrapping_add_usize(argument, 2);
     }
-    tally
+    Ok(tally)
 }
 
-fn main() {
-    let tally = replay_all();
-    io::print_decimal(STDOUT_FILENO, tally.traces);
-    io::write_all(STDOUT_FILENO, b" traces with ");
-    io::print_decimal(STDOUT_FILENO, tally.lines);
-    io::write_all(STDOUT_FILENO, b" lines agree, ");
-    io::print_decimal(STDOUT_FILENO, tally.other);
-    io::write_all(STDOUT_FILENO, b" differ\n");
+fn main(rt: HostRuntime) -> io::Result<()> {
+    let tally = replay_all(&rt)?;
+    rt.print(tally.traces)?;
+    rt.write_all(b" traces with ")?;
+    rt.print(tally.lines)?;
+    rt.write_all(b" lines agree, ")?;
+    rt.print(tally.other)?;
+    rt.write_all(b" differ\n")
 }

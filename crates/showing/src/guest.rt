@@ -4,6 +4,7 @@ ghost use Rattle.model.specs.Corners.{with_limit, fresh as fresh_of};
 ghost use Rattle.its.specs.Promises.{WritesLent};
 ghost use Rattle.showing.specs.Guest.{ring_in, set_to, enabled_with, example_with};
 
+use crate::show::Sheet;
 use its::WrittenRow;
 use model::{EventId, GicVcpuId, ItsConfig, ItsDeviceId, ItsState};
 use text::Line;
@@ -124,13 +125,21 @@ pub fn example(page: &[u8; 4096]) -> ItsState
     set(unit, page, CWRITER, 8, 128)
 }
 
-pub fn reads(what: &[u8], unit: ItsState, offset: u64, width: u8, expected: Line) {
+pub fn reads(
+    sheet: &mut Sheet,
+    what: &[u8],
+    unit: ItsState,
+    offset: u64,
+    width: u8,
+    expected: Line,
+) {
     let answer = its::read_its(unit, offset, width);
     let came = text::lines::of_read(answer);
-    crate::show::show(what, came, expected);
+    crate::show::show(sheet, what, came, expected);
 }
 
 pub fn writes(
+    sheet: &mut Sheet,
     what: &[u8],
     unit: ItsState,
     page: &[u8; 4096],
@@ -143,13 +152,20 @@ pub fn writes(
     let w = write(unit, page, 64, offset, 8, value);
     let answer = w.answer;
     let came = text::lines::of_write(answer);
-    crate::show::show(what, came, expected);
+    crate::show::show(sheet, what, came, expected);
     let left = w.unit;
     left
 }
 
-pub fn translates(what: &[u8], unit: ItsState, device: u32, event: u32, expected: Line) {
+pub fn translates(
+    sheet: &mut Sheet,
+    what: &[u8],
+    unit: ItsState,
+    device: u32,
+    event: u32,
+    expected: Line,
+) {
     let answer = its::translate(unit, ItsDeviceId(device), EventId(event));
     let came = text::lines::of_translation(answer);
-    crate::show::show(what, came, expected);
+    crate::show::show(sheet, what, came, expected);
 }

@@ -1,10 +1,46 @@
 // A line for each corner: what it is, what came, and what is expected.
+#![tactic(auto, unfolding(model::specs::Trace::line, text::specs::Laying::line_of))]
+
 ghost use Rattle.std.specs.Prelude.{◌≡◌, ◌∷◌, []};
 ghost use Rattle.model.specs.Trace.{line as lineWith};
 ghost use Rattle.text.specs.Laying.{line_of};
 
-use libc::STDOUT_FILENO;
+use std::io;
+use std::io::Stdout;
 use text::Line;
+
+// Where the lines go, and whether all of them went. After a write that failed no more is written. What a corner computes does not hang on it: whoever
+// shows one goes on, and `end` says it.
+#[derive(Drop)]
+pub struct Sheet {
+    to: Stdout,
+    written: io::Result<()>,
+}
+
+impl Sheet {
+    pub fn new(to: Stdout) -> Sheet {
+        Sheet {
+            to,
+            written: Ok(()),
+        }
+    }
+
+    pub fn end(self) -> io::Result<()> {
+        self.written
+    }
+
+    fn print(&mut self, bytes: &[u8]) {
+        if self.written.is_ok() {
+            self.written = self.to.write_all(bytes);
+        }
+    }
+
+    fn print_decimal(&mut self, n: u64) {
+        if self.written.is_ok() {
+            self.written = self.to.print(n);
+        }
+    }
+}
 
 pub fn rd(refusal: u64, value: u64) -> Line
     ensures { line_of result ≡ lineWith "RD" (refusal ∷ value ∷ []) }
@@ -118,39 +154,39 @@ fn same(a: Line, b: Line) -> bool {
     (marks & (a.count == b.count)) & (few & more)
 }
 
-fn print_number(there: bool, n: u64) {
+fn print_number(sheet: &mut Sheet, there: bool, n: u64) {
     if there {
-        io::write_all(STDOUT_FILENO, b" ");
-        io::print_decimal(STDOUT_FILENO, n);
+        sheet.print(b" ");
+        sheet.print_decimal(n);
     }
 }
 
-fn print_line(line: Line) {
+fn print_line(sheet: &mut Sheet, line: Line) {
     let mark = [line.first, line.second];
-    io::write_all(STDOUT_FILENO, &mark);
+    sheet.print(&mark);
     let count = line.count;
     let n = line.numbers;
-    print_number(0 < count, n[0]);
-    print_number(1 < count, n[1]);
-    print_number(2 < count, n[2]);
-    print_number(3 < count, n[3]);
-    print_number(4 < count, n[4]);
+    print_number(sheet, 0 < count, n[0]);
+    print_number(sheet, 1 < count, n[1]);
+    print_number(sheet, 2 < count, n[2]);
+    print_number(sheet, 3 < count, n[3]);
+    print_number(sheet, 4 < count, n[4]);
 }
 
 // A line above those of one unit.
-pub fn heading(what: &[u8]) {
-    io::write_all(STDOUT_FILENO, what);
-    io::write_all(STDOUT_FILENO, b":\n");
+pub fn heading(sheet: &mut Sheet, what: &[u8]) {
+    sheet.print(what);
+    sheet.print(b":\n");
 }
 
-pub fn show(what: &[u8], came: Line, expected: Line) {
-    io::write_all(STDOUT_FILENO, what);
-    io::write_all(STDOUT_FILENO, b": ");
-    print_line(came);
-    io::write_all(STDOUT_FILENO, b", expected ");
-    print_line(expected);
+pub fn show(sheet: &mut Sheet, what: &[u8], came: Line, expected: Line) {
+    sheet.print(what);
+    sheet.print(b": ");
+    print_line(sheet, came);
+    sheet.print(b", expected ");
+    print_line(sheet, expected);
     if !same(came, expected) {
-        io::write_all(STDOUT_FILENO, b", WRONG");
+        sheet.print(b", WRONG");
     }
-    io::write_all(STDOUT_FILENO, b"\n");
+    sheet.print(b"\n");
 }

@@ -80,9 +80,8 @@ pub fn run_trace(trace: &[u8], out: &mut [u8]) -> u64
     number_returned(run.laid)
 }
 
-// The same as a plain C call.
-#[unsafe(no_mangle)]
-pub extern "C" fn its_trace(trace: &[u8], out: &mut [u8]) -> u64
+// The same under the name of the C call, which crate `trace_c` exports.
+pub fn its_trace(trace: &[u8], out: &mut [u8]) -> u64
     ensures { Traced trace.now out.old result out.new }
 {
     run_trace(trace, out)

@@ -1,5 +1,5 @@
 // What a host lends for a write, as 01 names the forms: the guest window, carried together as one reader, and the row of actions. The functions here are
-// the thin ones over them, and their proofs walk the code by hand; each calls a function that goes by value.
+// the thin ones over them; each of the readers calls a function that goes by value.
 #![tactic(auto)]
 
 ghost use Rattle.std.specs.Prelude.{◌≡◌, ◌<◌, length, set};
@@ -24,6 +24,7 @@ pub fn read_word<'a>(window: GuestWindow<'a>, wanted: u64, index: usize) -> Word
 }
 
 // The four words of the command at a guest address: all its bytes are in the window, or none is read.
+#[tactic(auto, using(decoding::proofs::Reading::four_words))]
 pub fn read_command<'a>(window: GuestWindow<'a>, wanted: u64) -> CommandRead
     ensures { result ≡ command_read (lent window.entry.address window.entry.bytes.now) wanted }
 {
