@@ -1,11 +1,8 @@
 -- `trace::parts::number_at` meets its contract. The invariant: the word is the number of the last `done` of the bytes.
-use Prim.Native.Nat.{◌+◌, ◌-◌, ◌^◌, ◌≤◌, ◌<◌}
-use native.Mathlib.Omega.{arith}
+use Prim.Native.Nat.{◌+◌, ◌-◌, ◌≤◌}
 use mathlib.Core.Path.{◌≡◌}
 use lib.ListN.{drop}
-use borrow.Author.Rules.{rules}
 use Rattle.model.specs.Queue.{little_endian}
-use Rattle.words.proofs.LittleEndian.{one_more, below_from}
 use Rattle.trace.proofs.parts.number_at.Given as goal
 
 abbrev pub invariant-loop-done : goal.invariant-loop-done

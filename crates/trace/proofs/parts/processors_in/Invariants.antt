@@ -1,9 +1,7 @@
 -- `trace::parts::processors_in` meets its contract. The invariant: the first i of the sixteen places are filled.
 use Prim.Native.Nat.{◌-◌, ◌≤◌}
-use native.Mathlib.Omega.{arith}
-use mathlib.Core.Path.{◌≡◌, ◌∙◌}
-use borrow.Author.Rules.{rules}
-use Rattle.trace.proofs.Processors.{filled, filled_more, filled_all, filled_first}
+use mathlib.Core.Path.{◌≡◌}
+use Rattle.trace.proofs.Processors.{filled}
 use Rattle.trace.proofs.parts.processors_in.Given as goal
 
 abbrev pub invariant-loop-i : goal.invariant-loop-i

@@ -1,12 +1,9 @@
 -- `trace::records::put_written` meets its contract. The invariant: the lines of the actions that are left, laid from here on, give the same output as all of them.
 use Prim.Native.Nat.{◌-◌, ◌≤◌}
-use native.Mathlib.Omega.{arith}
-use mathlib.Core.Path.{◌≡◌, sym, ◌∙◌, ap}
+use mathlib.Core.Path.{◌≡◌}
 use lib.ListN.{length}
-use borrow.Author.Rules.{rules}
-use Rattle.model.proofs.TableLoops.{length_mapped}
 use Rattle.text.specs.Laying.{output, lay_all}
-use Rattle.trace.proofs.Handed.{left, left_more, left_none, left_out}
+use Rattle.trace.proofs.Handed.{left}
 use Rattle.trace.proofs.records.put_written.Given as goal
 
 abbrev pub invariant-loop-i : goal.invariant-loop-i
