@@ -1,4 +1,4 @@
--- What a write up to its run and then the run come to is said by Writes.antt.
+-- `its::write_its` meets its contract: a run that begins as `prepared` says ends as the model's write does (Writes.antt).
 use Rattle.decoding.specs.Reading.{lent}
 use Rattle.its.proofs.Writes.{begins, writes}
 use Rattle.its.proofs.write_its.Goals as goal
@@ -6,7 +6,7 @@ use Rattle.its.proofs.write_its.Goals as goal
 pub process_commands-requires : goal.process_commands-requires
 process_commands-requires c =
     let a = c.args in
-    rw (c.prepare-begun.ensures) (begins (lent a.window.address a.window.bytes.now) a.row.now a.unit a.offset a.width a.value)
+    rw c.prepare-begun.ensures (begins (lent a.window.address a.window.bytes.now) a.row.now a.unit a.offset a.width a.value)
 
 pub returns : goal.returns
 returns c =

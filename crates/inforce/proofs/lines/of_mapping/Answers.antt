@@ -1,0 +1,10 @@
+-- `inforce::lines::of_mapping` meets its contract: the line computes.
+use mathlib.Core.Path.{refl}
+use Rattle.model.specs.Trace.{line}
+use Rattle.text.specs.Laying.{line_of}
+use borrow.Author.Rules.{rules}
+use Rattle.inforce.proofs.lines.of_mapping.Goals as goal
+
+pub returns : goal.returns
+unfolding line line_of
+returns c = refl
