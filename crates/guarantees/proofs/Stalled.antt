@@ -28,7 +28,7 @@ use Rattle.model.specs.Choose.{if_found, is_found}
 use Rattle.model.specs.Arm.{◌of◌, CBASER_Valid, CWRITER_Retry, GITS_CWRITER, GITS_CREADR}
 use Rattle.model.specs.Refusal.{number_of, write_numbers}
 use Rattle.model.specs.With.{with_registers, unit_stalled}
-use Rattle.model.specs.Profile.{base, strict, is_strict, profile_of}
+use Rattle.model.specs.Profile.{strict, is_strict, profile_of}
 use Rattle.model.specs.Config.{sound_config, sound_ring, sound_unit}
 use Rattle.model.specs.Queue.{Window, waiting, Stop, Ran, run, stall, held}
 use Rattle.model.specs.Register.{one_if, is_stalled, creadr_value, read_part}

@@ -1,4 +1,2 @@
 pub mod Writes
-pub mod Boxed
-pub mod LocalRow
 pub mod Lending

@@ -1,2 +1,1 @@
 pub mod Ongoing
-pub mod Boxed

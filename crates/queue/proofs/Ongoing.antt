@@ -205,9 +205,6 @@ module _ (w : Window) (t₀ : Progress) (row₀ : List ItsAction) where
 
     -- what the loop's step is told
     module _ (so_far : Running t row) where
-      pub running_ready : Ready t
-      running_ready = ready_so (as_counted so_far)
-
       module _ {c : CommandRead} (read : c ≡ command_read w t.wanted) where
         wanted_is : c ≡ command_read w (command_address t.unit.registers t.unit.registers.creadr)
         wanted_is = read ∙ ap (λ s. command_read w s.wanted) (as_counted so_far).is
@@ -215,14 +212,21 @@ module _ (w : Window) (t₀ : Progress) (row₀ : List ItsAction) where
         the_turn : turn w t.unit ≡ turn_read t.unit c
         the_turn = turn_reads w t.unit wanted_is
 
-        pub running_on : Running (turn_of t c) (laid (turn_of t c) row)
-        running_on = counted (next (as_counted so_far) (turn_read t.unit c) the_turn)
+        module _ {r : Progress} (turned : r ≡ turn_of t c) where
+          on : Running r (laid r row)
+          on = rw turned (counted (next (as_counted so_far) (turn_read t.unit c) the_turn))
 
-        pub running_less : (turn_of t c).counts.left < t.counts.left
-        running_less = less (as_counted so_far) (turn_read t.unit c) the_turn
+          pub running_stored : r.acted ≡ true → Running r (set row r.at r.action)
+          running_stored h = subst (λ b. Running r (if b then set row r.at r.action else row)) h on
 
-        pub running_placed : (turn_of t c).at < length row
-        running_placed = placed (as_counted so_far) (turn_read t.unit c) the_turn
+          pub running_kept : r.acted ≡ false → Running r row
+          running_kept h = subst (λ b. Running r (if b then set row r.at r.action else row)) h on
+
+          pub running_less : r.counts.left < t.counts.left
+          running_less = rw turned (less (as_counted so_far) (turn_read t.unit c) the_turn)
+
+          pub running_placed : r.at < length row
+          running_placed = rw turned (placed (as_counted so_far) (turn_read t.unit c) the_turn)
 
   -- the end
   module _ {t : Progress} {row : List ItsAction} (over : t.more ≡ false) where

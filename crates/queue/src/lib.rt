@@ -20,8 +20,7 @@ use model::{
 use window::GuestWindow;
 
 // A write between two commands of its run: whether to go on, the action of the last command and its place in the row, the guest address of the command
-// on which CREADR stands, the counts, the answer if nothing more is done, and the unit. (What `process_commands` reads stands first: its
-// proof works out where each of those fields lies.)
+// on which CREADR stands, the counts, the answer if nothing more is done, and the unit.
 #[derive(Clone, Copy)]
 pub struct Progress {
     pub more: bool,
@@ -35,6 +34,7 @@ pub struct Progress {
 }
 
 // How many commands wait.
+#[tactic(auto, unfolding(model::specs::Queue::waiting))]
 fn waiting(registers: ItsRegisters) -> u64
     ensures { result ≡ waitingOf registers }
 {
@@ -86,6 +86,7 @@ fn quiet(unit: ItsState, counts: Counts, at: usize) -> Progress
 }
 
 // The queue runs in an enabled unit; in strict only where CBASER's bit 63 is set and the unit is not stalled.
+#[tactic(auto, unfolding(model::specs::Queue::may_run, model::specs::Queue::held))]
 fn may_run(config: ItsConfig, registers: ItsRegisters) -> bool
     ensures { result ≡ may_run config registers }
 {

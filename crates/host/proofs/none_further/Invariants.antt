@@ -5,7 +5,7 @@ use native.Mathlib.Numerals.{add-one}
 use mathlib.Core.Path.{◌≡◌, refl, sym, ap, ◌∙◌}
 use lib.ListN.{length, drop}
 use Rattle.host.specs.Calls.{all_zero, none_further}
-use Rattle.host.proofs.Given.{zero_more, zero-ends, zero-not}
+use Rattle.host.proofs.Given.{zero_more, zero_ends, zero_not}
 use Rattle.host.proofs.none_further.Given as goal
 
 abbrev pub invariant-loop-i : goal.invariant-loop-i

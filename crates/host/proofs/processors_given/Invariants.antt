@@ -4,7 +4,7 @@ use native.Mathlib.Omega.{arith}
 use Prim.Native.Nat.{◌-◌, ◌≤◌}
 use mathlib.Core.Path.{◌≡◌, ◌∙◌}
 use lib.ListN.{length}
-use Rattle.host.proofs.Given.{filled, filled_more, filled-all, filled-first}
+use Rattle.host.proofs.Given.{filled, filled_more, filled_all, filled_first}
 use Rattle.host.proofs.processors_given.Given as goal
 
 abbrev pub invariant-loop-i : goal.invariant-loop-i
