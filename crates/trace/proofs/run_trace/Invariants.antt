@@ -1,9 +1,7 @@
 -- `trace::run_trace` meets its contract. The invariant is `Going`: what is left to do gives the same end as the whole.
 use Prim.Native.Nat.{◌-◌}
-use mathlib.Core.Path.{sym, ◌∙◌}
 use lib.ListN.{length}
-use borrow.Author.Rules.{rules}
-use Rattle.trace.proofs.Going.{Going, begins, ready, again, less, within, answer}
+use Rattle.trace.proofs.Going.{Going}
 use Rattle.trace.proofs.run_trace.Given as goal
 
 abbrev pub invariant-loop-out : goal.invariant-loop-out
