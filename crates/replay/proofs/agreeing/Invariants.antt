@@ -1,5 +1,4 @@
 -- The loop counts its turns down, and nothing has to hold from turn to turn: each step is guarded by its own tests.
-use Rattle.std.proofs.Common.{arith}
 use Rattle.replay.proofs.agreeing.Given as goal
 
 abbrev pub invariant-loop-left : goal.invariant-loop-left
