@@ -19,5 +19,5 @@ returns c =
     let u = a.unit in
     rw (d.put_devices.ensures, m.put_mappings-next.ensures, p.put_profile-first.ensures)
     (sym
-    (append first (profile_lines u.config-1) (map mapping_line (mappings_of u) ++ map device_line (devices_of u))
-    ∙ append (lay_all first (profile_lines u.config-1)) (map mapping_line (mappings_of u)) (map device_line (devices_of u))))
+    (append first (profile_lines u.config) (map mapping_line (mappings_of u) ++ map device_line (devices_of u))
+    ∙ append (lay_all first (profile_lines u.config)) (map mapping_line (mappings_of u)) (map device_line (devices_of u))))
