@@ -126,11 +126,15 @@ def turn_comment(part, table):
     """In prose only what is no plain word turns; in spans of code every name."""
     plain = lambda w: re.fullmatch(r"[A-Za-z]?[a-z]*|[a-z]+(-[a-z]+)+", w)
     prose = lambda t: re.sub(r"[\w·'-]+", lambda m: m[0] if plain(m[0]) else table.get(m[0], m[0]), t)
-    return "".join(turn(t, table) if k % 2 else prose(t) for k, t in enumerate(SPAN.split(part)))
+    return "".join(turn_span(t, table) if k % 2 else prose(t) for k, t in enumerate(SPAN.split(part)))
+
+
+def turn_span(span, table):
+    return "`" + turn(span[1:-1], table) + "`"
 
 
 def turn_page(text, table):
-    return "".join(turn(t, table) if k % 2 else t for k, t in enumerate(SPAN.split(text)))
+    return "".join(turn_span(t, table) if k % 2 else t for k, t in enumerate(SPAN.split(text)))
 
 
 def turn_edit(text, table):

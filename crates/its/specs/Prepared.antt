@@ -1,5 +1,5 @@
 -- A write up to its run: the unit with the registers that it leaves, and a run that begins there, or none. No sentence of document 01 stands here: the
--- registers are the model's `registerWrite`, and proofs/Writes.antt shows that such a beginning ends as the model's write does.
+-- registers are the model's `register_write`, and proofs/Writes.antt shows that such a beginning ends as the model's write does.
 -- Assumes nothing.
 use Rattle.std.specs.Prelude.{ℕ}
 use Rattle.model.specs.declared.ItsState.{ItsState}

@@ -44,7 +44,7 @@ pub record Writes (w : Window) (row : List ItsAction) (u : ItsState) (offset wid
 abbrev pub beside_row : Written → List ItsAction → WrittenRow
 beside_row r left = record { unit = r.unit; answer = r.answer; row = left }
 
--- Follows the code: how many records the helper `lent_of` lends where a caller asks for `room`. It is what `take room lentRow` comes to.
+-- Follows the code: how many records the helper `lent_of` lends where a caller asks for `room`. It is what `take room lent_row` comes to.
 abbrev pub lent_of : ℕ → ℕ
 lent_of room = if ltb room 1024 then room else 1024
 

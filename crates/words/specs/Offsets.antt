@@ -1,5 +1,5 @@
 -- Where an offset lies, as the code asks it: the base of its 64-bit register, and the number of its BASER. No sentence of document 01 stands here:
--- crate `registers` goes by these to the model's `registerAt`.
+-- crate `registers` goes by these to the model's `register_at`.
 -- Assumes nothing.
 use Rattle.std.specs.Prelude.{ℕ, ◌+◌, ◌-◌, ◌*◌, ◌/◌}
 use Rattle.words.specs.declared.WideRegisterBase.{WideRegisterBase}
