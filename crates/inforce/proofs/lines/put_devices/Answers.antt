@@ -16,7 +16,7 @@ loop-i-preserved c =
     let h = c.loop-i in
     let u = c.args.unit in (
       laid_on (λ r. r.used) (mapped_at u) device_line 32 h.i (omega arith) (output h.out h.next) _ (rw (← c.device_at-r.ensures) c.put_device-next.ensures) ∙ h.invariant.0,
-      c.put_device-next.auto.0 ∙ h.invariant.1,
+      c.put_device-next.auto.out ∙ h.invariant.1,
       h.invariant.2,
       omega arith,
     )

@@ -16,7 +16,7 @@ loop-i-preserved c =
     let h = c.loop-i in
     let u = c.args.unit in (
       laid_on (λ m. m.in_force) (mapping_at u) mapping_line 256 h.i (omega arith) (output h.out h.next) _ (rw (← c.mapping_at-m.ensures) c.put_mapping-next.ensures) ∙ h.invariant.0,
-      c.put_mapping-next.auto.0 ∙ h.invariant.1,
+      c.put_mapping-next.auto.out ∙ h.invariant.1,
       h.invariant.2,
       omega arith,
     )
