@@ -25,10 +25,6 @@ pub count_less : (f m : ℕ) → m < 10 → digit_count f m ≡ 1
 count_less zero m h = refl
 count_less (suc f) m h = simp (lt-leb 10 m h)
 
-pub count_none : (f m : ℕ) → f ≤ 0 → digit_count f m ≡ 1
-count_none zero m h = refl
-count_none (suc f) m h = absurd (omega arith)
-
 pub digits_length : (k n : ℕ) → length (digits k n) ≡ k
 digits_length zero n = refl
 digits_length (suc k) n = length-append (digits k (n / 10)) ((48 + n % 10) ∷ []) ∙ rw (digits_length k (n / 10)) (omega arith)
@@ -41,10 +37,6 @@ decimal_length n = digits_length (digit_count 20 n) n
 abbrev pub lay : ℕ → ℕ → ℕ → List ℕ → List ℕ
 lay zero i n l = l
 lay (suc k) i n l = lay k i (n / 10) (set l (i + k) (48 + n % 10))
-
-pub lay_step : (k i n : ℕ) (l : List ℕ) → 0 < k → lay k i n l ≡ lay (k - 1) i (n / 10) (set l (i + (k - 1)) (48 + n % 10))
-lay_step zero i n l h = absurd (omega arith)
-lay_step (suc k) i n l h = rw minus_one
 
 pub lay_none : (k i n : ℕ) (l : List ℕ) → k ≤ 0 → l ≡ lay k i n l
 lay_none zero i n l h = refl

@@ -14,7 +14,7 @@ use Rattle.model.specs.Trace.{trace_lines, all_fit, space, returned, output_afte
 use Rattle.model.proofs.Cases.{cases, never}
 use Rattle.text.specs.declared.Laid.{Laid}
 use Rattle.text.specs.Laying.{output, laid_at}
-use Rattle.text.proofs.Fits.{at, full, fits, ending, fitting_within}
+use Rattle.text.proofs.Fits.{full, fits, ending, fitting_within}
 use Rattle.trace.specs.Traced.{Traced}
 use Rattle.trace.specs.Records.{Stand, stand, output_of, running_of, run_at_start, goes_on, number_returned}
 use Rattle.trace.proofs.Rest.{lines_in, rest}

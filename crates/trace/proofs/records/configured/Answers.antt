@@ -1,7 +1,6 @@
 -- `trace::records::configured` meets its contract: a CF that is too short, one that is cut off, and a whole one.
 use native.Mathlib.Omega.{arith}
 use mathlib.Core.Path.{◌∙◌, ap}
-use borrow.Author.Rules.{rules}
 use Rattle.trace.specs.Records.{output_of, stretch_of, stand_at}
 use Rattle.trace.proofs.Parsing.{cf_short, cf_cut, cf_whole}
 use Rattle.trace.proofs.records.configured.Goals as goal

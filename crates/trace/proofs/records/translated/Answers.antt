@@ -1,5 +1,4 @@
 -- `trace::records::translated` meets its contract: a TR that is cut off, and a whole one.
-use borrow.Author.Rules.{rules}
 use Rattle.trace.proofs.Parsing.{tr_short, tr_whole}
 use Rattle.trace.proofs.records.translated.Goals as goal
 
