@@ -55,6 +55,7 @@ is_built() {
 }
 if ! is_built; then
     echo "$program: proving and building it; this takes some minutes once" >&2
+    rm -f "$built"
     # It runs the program too, on nothing.
     (cd "crates/$program" && rt run) </dev/null >"$work/log" 2>&1 || [ -x "$built" ] || {
         cat "$work/log" >&2
