@@ -249,8 +249,10 @@ class Antt(Reader):
         words = left.replace("(", " ").replace(")", " ").split()
         for place in self.open or ():
             name = re.sub("#[0-9]+$", "", place.name)
-            parts = [name] if "_" not in name or name.startswith("«") else [part for part in name.split("_") if part]
-            first = words[0] == parts[0] if name[0] != "_" else parts[0] in words
+            # An argument's place in the name of an operator is ◌, and was _ in an older Rattle.
+            whole = name == words[0] or name.startswith("«")
+            parts = [name] if whole else [part for part in re.split("◌" if "◌" in name else "_", name) if part] or [name]
+            first = words[0] == parts[0] if name[0] not in "◌_" else parts[0] in words
             if first and all(part in words for part in parts):
                 return self.below(lines)
 
@@ -310,6 +312,9 @@ class Rt(Reader):
     def walk(self, i, end, prefix):
         while i < end:
             j = i
+            while self.word(j) == "#" and self.word(j + 1) == "!":  # of the whole file
+                self.take(j, self.close(j + 2), "use lines")
+                i = j = self.close(j + 2)
             while self.word(j) == "#":
                 j = self.close(j + 1)
             public = self.word(j) == "pub"
@@ -356,7 +361,7 @@ class Rt(Reader):
             said.append(self.take(i if k == j else k, ends))
             if self.word(ends) not in self.CLAUSES:
                 break
-            k = self.close(ends + 1)
+            k = self.close(self.until(ends + 1, "{"))  # a clause may have a name
             self.take(ends, k)
             said.append(level(self.text[self.words[ends][1] : self.words[k - 1][2]]))
         last = self.close(ends) if self.word(ends) == "{" else ends + 1
@@ -381,6 +386,7 @@ def edits(text):
         rest.clear()
 
     for line in text.splitlines():
+        line = re.sub("^# (?=fails: )", "", line)  # rt reads no such line, and wants it to be a comment
         if not line.strip() or (line.startswith("#") and rest):
             close()
         if line.startswith("#"):

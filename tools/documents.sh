@@ -81,7 +81,7 @@ def sentences(page, wrong):
             crate, name = word.split("::")
             sources = map(read, glob.glob(f"crates/{crate}/src/**/*.rt", recursive=True))
             any(re.search(f'pub (extern "C" )?fn {name}[<(]', text) for text in sources) or wrong(f"no function {word}")
-        elif re.fullmatch("guarantees: [a-z0-9-]*", word):
+        elif re.fullmatch("guarantees: [a-z0-9_]*", word):
             name = word.split(": ")[1]
             re.search(f"^  pub {name} :", read("crates/guarantees/specs/Theorems.antt"), re.M) or wrong(f"no theorem {name}")
     for label in quoted("\n".join(re.findall("must-fail .*", page))):
@@ -109,7 +109,7 @@ def guarantees(page, wrong):
     """`File.name` and `proofs/File.name` are of crates/guarantees, `CRATE: File.name` of another."""
     count = 0
     for word in quoted(page):
-        found = re.fullmatch(r"(?:([a-z_]+): )?((?:proofs/)?[A-Z][A-Za-z0-9]*\.[A-Za-z][A-Za-z0-9-]*)", word)
+        found = re.fullmatch(r"(?:([a-z_]+): )?((?:proofs/)?[A-Z][A-Za-z0-9]*\.[A-Za-z][A-Za-z0-9_]*)", word)
         if found and not re.search(r"\.(md|antt)$|File\.name$", word):
             count += 1
             path, name = placed(found[2], found[1] or "guarantees")
@@ -239,12 +239,12 @@ def visit(page, wrong):
 
 
 def refusals(header, wrong):
-    definition = re.findall(r"^numberOf (\w+) = ([0-9]+)$", read("crates/model/specs/Refusal.antt"), re.M)
+    definition = re.findall(r"^number_of (\w+) = ([0-9]+)$", read("crates/model/specs/Refusal.antt"), re.M)
     numbers = {name: number for name, number in definition if number != "11"}
     spelt = {"ITS_" + re.sub("(?<!^)(?=[A-Z])", "_", name).upper(): number for name, number in numbers.items()}
-    dict(re.findall(r"^    (ITS_\w+) = ([0-9]+),", header, re.M)) == spelt or wrong("its refusals are not those of Refusal.numberOf")
+    dict(re.findall(r"^    (ITS_\w+) = ([0-9]+),", header, re.M)) == spelt or wrong("its refusals are not those of Refusal.number_of")
     crate = re.findall(r"^    (\w+) = ([0-9]+), \"", read("host/its/src/refusal.rs"), re.M)
-    dict(crate) == numbers or wrong("the refusals of host/its are not those of Refusal.numberOf")
+    dict(crate) == numbers or wrong("the refusals of host/its are not those of Refusal.number_of")
     return f"{len(numbers)} refusals, with the names and numbers of the definition, as in host/its"
 
 

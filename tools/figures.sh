@@ -1,30 +1,27 @@
 #!/bin/sh
 # The figures of docs/FIGURES.md that come from the repository alone: lines of code, definitions and proofs per crate and in all; how many wrong
-# versions are tried, and the facts that must fail in them; and of the last run of tools/test.sh what each crate took to check from nothing, what its
-# wrong versions took (rt's own seconds, with two at a time), and what the whole took, the largest part first.
+# versions are tried, and the facts that must fail in them; and of the last run of tools/test.sh what the whole took, the largest part first. (rt says
+# no seconds of a crate.)
 set -u
 cd "$(dirname "$0")/.." || exit 2
 
 # lines that are neither blank nor a comment
 lines() { find "$@" -type f \( -name '*.rt' -o -name '*.antt' \) -exec cat {} + 2>/dev/null | grep -vcE '^[[:space:]]*(//.*|--.*)?$'; }
-# the seconds that rt says on the lines of its log that begin so, in all
-seconds() { sed -n "s|^rt: $1.*[( ]\([0-9]*\) s)\$|\1|p" target/ci.log 2>/dev/null | awk '{ all += $1 } END { if (NR) print all " s"; else print "-" }'; }
 
 {
-    for crate in $(sed 's/#.*//' crates.txt | sed -n 's/^\([a-z_][a-z0-9_]*\):.*/\1/p'); do
+    for crate in $(sed 's/#.*//' crates.txt | sed -n 's/^\([a-z_][a-z0-9_]*\)\( *staticlib\)\{0,1\} *:.*/\1/p'); do
         edits=$(find "crates/$crate/must-fail" -name '*.edit' 2>/dev/null | wc -l)
-        facts=$(cat "crates/$crate"/must-fail/*.edit 2>/dev/null | grep -c '^fails: ')
-        printf '%s | ' "$crate" "$(lines "crates/$crate/src")" "$(lines "crates/$crate/specs")" "$(lines "crates/$crate/proofs")" "$edits" "$facts" \
-            "$(seconds "$crate proved")"
-        seconds "must-fail $crate/"
+        facts=$(cat "crates/$crate"/must-fail/*.edit 2>/dev/null | grep -Ec '^(# )?fails: ')
+        printf '%s | ' "$crate" "$(lines "crates/$crate/src")" "$(lines "crates/$crate/specs")" "$(lines "crates/$crate/proofs")" "$edits"
+        echo "$facts"
     done
 } | awk -F' [|] ' '
     BEGIN {
-        print "| crate | code | definitions | proofs | must-fail edits | facts that fail | check | edits |"
-        print "|---|---|---|---|---|---|---|---|"
+        print "| crate | code | definitions | proofs | must-fail edits | facts that fail |"
+        print "|---|---|---|---|---|---|"
     }
-    { print "| " $0 " |"; for (i = 2; i <= 8; i++) all[i] += $i }
-    END { printf "| all %d |", NR; for (i = 2; i <= 8; i++) printf " %d%s |", all[i], (i > 6 ? " s" : ""); print "" }'
+    { print "| " $0 " |"; for (i = 2; i <= 6; i++) all[i] += $i }
+    END { printf "| all %d |", NR; for (i = 2; i <= 6; i++) printf " %d |", all[i]; print "" }'
 echo
 if [ -f target/times.txt ]; then
     sort -rn target/times.txt | awk '
@@ -32,5 +29,5 @@ if [ -f target/times.txt ]; then
         { took[NR] = $1; all += $1; sub(/^[0-9]* /, ""); part[NR] = $0 }
         END { print "The last run of tools/test.sh took " shown(all) ":"; for (i = 1; i <= NR; i++) print "- " part[i] ": " shown(took[i]) }'
 else
-    echo "(for the last columns and the time of each part run tools/test.sh first)"
+    echo "(for the time of each part run tools/test.sh first)"
 fi

@@ -1,15 +1,15 @@
 #!/bin/sh
 # Runs a program of this repository on a trace: tools/on-trace.sh PROGRAM [--each] [--text] [FILE], or standard input. With --text the trace is in the
 # text form of oracle/README.md; --each puts a plus sign before it, which `inforce` understands. The first run proves and builds the program, which
-# takes some minutes; later ones start at once. Programs are compiled for x86-64; on an Arm machine the kit's emulator runs them, as rt does.
+# takes some minutes where `rt ci` has not done it; later ones start at once. Programs are compiled for x86-64.
 set -eu
 root=$(cd "$(dirname "$0")/.." && pwd)
 program=$1
 shift
-each='' text=''
+each_sign='' text=''
 while :; do
     case ${1:-} in
-    --each) each=+ ;;
+    --each) each_sign=+ ;;
     --text) text=yes ;;
     *) break ;;
     esac
@@ -32,18 +32,35 @@ else
 fi
 
 cd "$root"
-rt=$(command -v rt) || { echo "$program: rt, the command of the Rattle kit, is not on the PATH" >&2; exit 2; }
-# The kit is the folder above bin/rt, links followed.
-while [ -L "$rt" ]; do
-    link=$(readlink "$rt")
-    case $link in /*) rt=$link ;; *) rt=$(dirname "$rt")/$link ;; esac
-done
-tools=${RATTLE_HOME:-$(cd "$(dirname "$rt")/.." && pwd -P)}/on/$(uname -m)/toolchain
-[ -x "target/bin/$program" ] || echo "$program: proving and building it; this takes some minutes once" >&2
-rt check "$program" >"$work/log" 2>&1 || {
-    cat "$work/log" >&2
-    exit 1
+deps_of() { sed 's/#.*//' crates.txt | sed -n -E "s/^ *$1( +staticlib)? *://p"; }
+reached=''
+reach() {
+    for each; do
+        case " $reached " in *" $each "*) continue ;; esac
+        [ -d "crates/$each" ] || continue
+        reached="$reached $each"
+        # shellcheck disable=SC2046
+        reach $(deps_of "$each")
+    done
 }
-set -- "$tools/lib/ld-linux-x86-64.so.2" --library-path "$tools/lib" "target/bin/$program"
-[ ! -x "$tools/bin/qemu-x86_64" ] || set -- "$tools/bin/qemu-x86_64" "$@"
-{ printf %s "$each"; cat "$work/trace"; } | "$@"
+reach "$program"
+built=crates/$program/out/$program
+is_built() {
+    [ -x "$built" ] || return 1
+    for each in $reached; do
+        for part in src specs proofs; do
+            [ -z "$(find "crates/$each/$part" -newer "$built" 2>/dev/null | head -n 1)" ] || return 1
+        done
+    done
+}
+if ! is_built; then
+    echo "$program: proving and building it; this takes some minutes once" >&2
+    rm -f "$built"
+    # It runs the program too, on nothing.
+    (cd "crates/$program" && rt run) </dev/null >"$work/log" 2>&1 || [ -x "$built" ] || {
+        cat "$work/log" >&2
+        exit 1
+    }
+    touch "$built"
+fi
+{ printf %s "$each_sign"; cat "$work/trace"; } | "$built"

@@ -22,18 +22,15 @@ part() {
     echo "$(($(date +%s) - began)) $name" >>"$work/times"
     return "$ended"
 }
-# Passes rt's lines on, but for the last; keeps them all; and notes the seconds of rt's three phases. The wait for a line is counted to the phase
-# that the line tells of.
+# Passes rt's lines on, but for the last; keeps them all; and notes the seconds until the first program ran, and those after it.
 phases() {
     python3 -c '
 import re, sys, time
 
-took, phase, held, last = dict.fromkeys(["proving", "must-fail", "programs"], 0), "proving", b"", time.time()
+took, phase, held, last = dict.fromkeys(["proving and must-fail", "programs"], 0), "proving and must-fail", b"", time.time()
 with open(sys.argv[1] + "/ci.log", "wb") as log:
     for line in sys.stdin.buffer:
-        if line.startswith(b"rt: must-fail "):
-            phase = "must-fail"
-        elif re.match(rb"rt: \w+ ran\b", line):
+        if re.match(rb"rt: \w+ ran\b", line):
             phase = "programs"
         took[phase] += time.time() - last
         last = time.time()
@@ -47,19 +44,22 @@ with open(sys.argv[1] + "/times", "a") as times:
 }
 
 command -v rt >/dev/null 2>&1 || fail "rt, the command of the Rattle kit, is not on the PATH"
-part layout rt fmt --check || fail "a file is not in rt's layout: run 'rt fmt'"
 part towers tools/towers.sh || fail "a tower names the other, or a crate below both a tower"
 part documents tools/documents.sh || fail "a document does not fit what it speaks of"
-part oracle tools/oracle.sh || fail "the published Rust does not answer as recorded"
-part definitions tools/definitions.sh || fail "the definitions do not answer as recorded"
 
-# rt ci removes target/ first: no verdict rests on an earlier run.
+# The gate of the kit: each proof from nothing, but for what an earlier run on this machine passed of the same files; the layout; the programs.
 { rt ci; echo $? >"$work/status"; } | phases || fail "what rt said was not kept"
 status=$(cat "$work/status")
 verdict=$(tail -n 1 "$work/ci.log")
+mkdir -p target
 cp "$work/ci.log" target/
 if [ "$status" -eq 0 ]; then
+    # Bad edits fail nothing in rt ci.
+    grep -q '^rt: ok;' "$work/ci.log" || fail "rt ci did not say that all is well"
+    ! grep -Eq '^rt: ok;.*, [0-9]+ bad' "$work/ci.log" || fail "a must-fail edit is bad"
     part reasons tools/must-fail-reasons.sh || fail "a must-fail edit shows nothing"
+    part definitions tools/definitions.sh || fail "the definitions do not answer as recorded"
+    part oracle tools/oracle.sh || fail "the published Rust does not answer as recorded"
     # After rt ci, so that what the C calls stand on is proved already.
     part differential tools/differential.sh || fail "a C call does not answer as the published Rust"
     part host tools/host.sh || fail "the calls for hosts do not answer as they must"

@@ -8,17 +8,17 @@ import glob, re, sys
 
 places = {
     "below both": "model words registers decoding answers",
-    "by value": "tables command window queue its text trace",
-    "over numbers": "lent_tables lent_command lent_queue host",
+    "by value": "tables command window queue its text trace trace_c",
+    "over numbers": "lent_tables lent_command lent_queue host host_c",
     "about both": "arm_agreement guarantees mappings showing corners by_hand inforce itstrace replay",
 }
 place = {crate: name for name, crates in places.items() for crate in crates.split()}
 may = {"below both": ["below both"], "by value": ["below both", "by value", "of the kit"], "over numbers": ["below both", "over numbers", "of the kit"]}
-# How a file names a crate: `queue::name` in code, `Rattle·queue` in definitions and proofs.
-names = re.compile(r"(?<![\w:.·])([a-z_0-9]+)::|\buse ([a-z_0-9]+)(?:;| as )|Rattle·([a-z_0-9]+)")
+# How a file names a crate: `queue::name` in code, `Rattle.queue` in clauses, definitions and proofs.
+names = re.compile(r"(?<![\w:.])([a-z_0-9]+)::|\buse ([a-z_0-9]+)(?:;| as )|\bRattle\.([a-z_0-9]+)")
 
 refused, files = [], 0
-listed = dict(re.findall(r"^([a-z_0-9]+) *:(.*)", open("crates.txt").read(), re.M))
+listed = dict(re.findall(r"^([a-z_0-9]+)(?: +staticlib)? *:(.*)", open("crates.txt").read(), re.M))
 for crate in sorted(listed.keys() ^ place.keys()):
     refused.append(f"crates.txt lists {crate}, which has no place in tools/towers.sh" if crate in listed else f"crates.txt does not list {crate}")
 for crate in [crate for crate in listed if place.get(crate) in may]:
