@@ -81,4 +81,4 @@ module _ (w : Window) (row : List ItsAction) (u : ItsState) (offset width value 
   -- THE THEOREM, of any unit.
   pub tries_again : (r : Written) (left : List ItsAction) → Writes w row u offset width value r left → Tries u (stores row u offset width value) →
       TriesAgain w row u (stores row u offset width value) r left
-  tries_again r left e t = rw (e.answer, e.row_left_lem) (by_way (way w row u offset width value) t)
+  tries_again r left e t = rw (e.answer, e.row_is) (by_way (way w row u offset width value) t)

@@ -43,7 +43,7 @@ module _ (change : ItsState → ItsState) (Meant : Window → List ItsAction →
         writes = λ w row offset width value c r r' left left' e e'.
             let same = writes w row offset width value c in (
               e'.answer ∙ (ap (λ o. o.written) same ∙ ap (λ x. record { unit = change x.unit; answer = x.answer }) (sym e.answer)),
-              e'.row_left_lem ∙ (ap (λ o. o.row) same ∙ sym e.row_left_lem),
+              e'.row_is ∙ (ap (λ o. o.row) same ∙ sym e.row_is),
             );
         call_reads = λ offset width r r' told told' c c'. told_alike _ _ (ap numbers_of_read (reads offset width)) r r' told told' c c';
         call_translates = λ device event r r' told told' c c'.

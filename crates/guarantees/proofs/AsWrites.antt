@@ -19,7 +19,7 @@ pub lent_writes : (w : Window) (room : ℕ) (u : ItsState) (offset width value :
 lent_writes w room u offset width value r e = (
   (write w (take room lent_row) u offset width value).row,
   (
-    record { answer = ap (λ z. record { unit = z.unit; answer = z.answer }) e.answer; row_left_lem = refl; numbers = e.numbers },
+    record { answer = ap (λ z. record { unit = z.unit; answer = z.answer }) e.answer; row_is = refl; numbers = e.numbers },
     ap (λ z. z.row) e.answer,
   ),
 )
@@ -29,4 +29,4 @@ pub call_writes : (w : Window) (row : List ℕ) (u : ItsState) (offset width val
     (a : WriteAnswer) × (Writes w (map action_in row) u offset width value (record { unit = left; answer = a }) (map action_in after) × Tells (numbers_of_write a) r told)
 call_writes w row u offset width value left after r told c =
     let a = (write w (map action_in row) u offset width value).written.answer in
-    (a, (record { answer = ap (λ v. record { unit = v; answer = a }) c.unit; row_left_lem = c.row_reads; numbers = refl }, c.told))
+    (a, (record { answer = ap (λ v. record { unit = v; answer = a }) c.unit; row_is = c.row_reads; numbers = refl }, c.told))

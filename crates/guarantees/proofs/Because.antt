@@ -31,7 +31,7 @@ use Rattle.model.specs.Queue.{Window, command_at, command_address, stays, judged
 use Rattle.model.proofs.Cases.{cases, never, found, and_left, and_right}
 use Rattle.model.proofs.Profiles.{is_strict_lem}
 use Rattle.guarantees.specs.Refusals.{at_command, given_at, IfRefused}
-use Rattle.guarantees.specs.Reasons.{MapsPair, mapti, mapi, LpiHeld, DeviceHeld, BecauseIn01, TooLarge, Because, too_large_lem, in_01, lpi, device, event, collection, movi_collection, invall_collection, movi_pair, discard_pair, inv_pair, processor, int_nowhere, clear_nowhere, devices_full, collections_full, pairs_full, CommandRead, Told, not_there, opcode_unknown, because}
+use Rattle.guarantees.specs.Reasons.{MapsPair, mapti, mapi, LpiHeld, DeviceHeld, BecauseIn01, TooLarge, Because, above_16_bits, in_01, lpi, device, event, collection, movi_collection, invall_collection, movi_pair, discard_pair, inv_pair, processor, int_nowhere, clear_nowhere, devices_full, collections_full, pairs_full, CommandRead, Told, not_there, opcode_unknown, because}
 use Rattle.guarantees.specs.Theorems.{OfEveryWrite}
 use Rattle.guarantees.proofs.Refused.{refusal_kept}
 
@@ -143,11 +143,11 @@ module _ (u : ItsState) where
   because_of : (x : Command) (why : Refusal) → check u x ≡ Refused why → Because u x why
   because_of x why h =
       first (Because u x) (not (names_too_large u.config x)) DeviceTooLarge _ h
-      (λ fails. too_large_lem (so_large x (not-false _ fails)))
+      (λ fails. above_16_bits (so_large x (not-false _ fails)))
       (λ ok h. in_01 (λ t. never _ (large_so t) (not-true _ ok)) (because_in_01 x why h))
 
   refused_so : {x : Command} {why : Refusal} → Because u x why → check u x ≡ Refused why
-  refused_so (too_large_lem t) = rw (large_so t)
+  refused_so (above_16_bits t) = rw (large_so t)
   refused_so {x} (in_01 small b) = rw (small_so x small) (refused_in_01 b)
 
   -- The command on which CREADR stands.

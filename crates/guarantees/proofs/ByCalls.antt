@@ -31,8 +31,8 @@ use Rattle.model.proofs.Numbers.{one_reason}
 use Rattle.its.specs.Promises.{Reads, Translates}
 use Rattle.host.specs.Calls.{Tells, action_in, numbers_of_write, numbers_of_translation}
 use Rattle.guarantees.specs.Actions.{passed_told, ActionsGiven, CallActionsGiven}
-use Rattle.guarantees.specs.MappingsInForce.{Led, begins, a_read, a_translation_lem, a_write, MappingsInForce}
-use Rattle.guarantees.specs.CallsInForce.{LedByCalls, its_configure_lem, its_read_lem, its_translate_lem, its_write_lem, OfCallsTo, CallsInForce}
+use Rattle.guarantees.specs.MappingsInForce.{Led, begins, a_read, a_translate, a_write, MappingsInForce}
+use Rattle.guarantees.specs.CallsInForce.{LedByCalls, by_its_configure, by_its_read, by_its_translate, by_its_write, OfCallsTo, CallsInForce}
 use Rattle.guarantees.proofs.AsWrites.{call_writes}
 use Rattle.guarantees.proofs.InForce.{mappings_in_force, actions_given}
 
@@ -50,13 +50,13 @@ accepted k h = cases (sound_config k) (λ e. rw e) (λ e. absurd (omega (arith, 
 
 -- calls lead where the entries lead
 pub led_by_calls : {k : ItsConfig} {u : ItsState} {h : List Command} → LedByCalls k u h → Led k u h
-led_by_calls {k} (its_configure_lem ss ps s u r told c z) =
+led_by_calls {k} (by_its_configure ss ps s u r told c z) =
     subst (λ v. Led k v []) (sym (c.0 ∙ ap (λ a. (configure a).unit) (sym s)))
     (begins (configure k) (record { answer = refl; numbers = refl }) (accepted k (ap (λ a. verdict_number (configure a).verdict) s ∙ sym c.1.1 ∙ z)))
-led_by_calls (its_read_lem {u = u} l offset width r told c) = a_read (led_by_calls l) offset width (read u offset width) (reads_as u offset width)
-led_by_calls (its_translate_lem {u = u} l device event r told c) =
-    a_translation_lem (led_by_calls l) (record { 0 = device }) (record { 0 = event }) (translate u (record { 0 = device }) (record { 0 = event })) (translates_as u _ _)
-led_by_calls {k} (its_write_lem {u = u} {h = h} l w row offset width value left after r told c) =
+led_by_calls (by_its_read {u = u} l offset width r told c) = a_read (led_by_calls l) offset width (read u offset width) (reads_as u offset width)
+led_by_calls (by_its_translate {u = u} l device event r told c) =
+    a_translate (led_by_calls l) (record { 0 = device }) (record { 0 = event }) (translate u (record { 0 = device }) (record { 0 = event })) (translates_as u _ _)
+led_by_calls {k} (by_its_write {u = u} {h = h} l w row offset width value left after r told c) =
     let (a, (x, t)) = call_writes w row u offset width value left after r told c in
     subst (λ d. Led k left (passed_told w u d ++ h)) (sym t.0)
     (a_write (led_by_calls l) w (map action_in row) offset width value (record { unit = left; answer = a }) (map action_in after) x)

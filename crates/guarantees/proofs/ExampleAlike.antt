@@ -103,7 +103,7 @@ unfolding shown command_here
 common_cwriter = record { no_retry = λ e. refl; queue = record { bit63 = λ on e w. refl; commands = λ on e w. four; none_refused = λ on e w. refl } }
 
 wrote : (u : ItsState) (offset width value : ℕ) → Writes window row u offset width value (write window row u offset width value).written (write window row u offset width value).row
-wrote u offset width value = record { answer = refl; row_left_lem = refl; numbers = refl }
+wrote u offset width value = record { answer = refl; row_is = refl; numbers = refl }
 
 accepted : (p : ℕ) → p < 2 → (configure (configured 65535 p)).verdict ≡ Accepted
 unfolding shown
@@ -127,11 +127,11 @@ strictly =
     let to₁ : Led (configured 65535 1) (based 1) [] = a_write to₀ window row GITS_CBASER 8 0x8000000040000000 _ _ (wrote _ _ _ _) in
     let to₂ : Led (configured 65535 1) (switched 1) [] = a_write to₁ window row GITS_CTLR 4 1 _ _ (wrote _ _ _ _) in
     let to₃ : Led (configured 65535 1) (done 1) example_met = a_write to₂ window row GITS_CWRITER 8 128 _ _ (wrote _ _ _ _) in
-    a_write to₃ again_window row GITS_CWRITER 8 160 (write again_window row (done 1) GITS_CWRITER 8 160).written _ (record { answer = refl; row_left_lem = refl; numbers = refl })
+    a_write to₃ again_window row GITS_CWRITER 8 160 (write again_window row (done 1) GITS_CWRITER 8 160).written _ (record { answer = refl; row_is = refl; numbers = refl })
 
 mapped_again : Writes again_window row (done 1) GITS_CWRITER 8 160 (record { unit = last; answer = Taken 1 0 }) row
 unfolding shown
-mapped_again = record { answer = refl; row_left_lem = refl; numbers = refl }
+mapped_again = record { answer = refl; row_is = refl; numbers = refl }
 
 -- the opcode 0E, and Retry
 abbrev halted : ItsState
@@ -142,7 +142,7 @@ gone_on = (write sync_window row halted GITS_CWRITER 8 193).written.unit
 
 halts : Writes stop_window row last GITS_CWRITER 8 192 (record { unit = halted; answer = NotTaken OpcodeUnknown 14 160 0 0 }) row
 unfolding shown
-halts = record { answer = refl; row_left_lem = refl; numbers = refl }
+halts = record { answer = refl; row_is = refl; numbers = refl }
 
 led_halted : Led (configured 65535 1) halted (mapd 4 ∷ example_met)
 led_halted = a_write strictly stop_window row GITS_CWRITER 8 192 (record { unit = halted; answer = NotTaken OpcodeUnknown 14 160 0 0 }) row halts
@@ -163,8 +163,8 @@ example_strict =
       stopped = halted;
       wr_stopped = halts;
       led_stopped = led_halted;
-      is_stalled_lem = refl;
+      stalled_there = refl;
       went_on = gone_on;
-      wr_retry = record { answer = refl; row_left_lem = refl; numbers = refl };
+      wr_retry = record { answer = refl; row_is = refl; numbers = refl };
       is_clear = refl;
     }

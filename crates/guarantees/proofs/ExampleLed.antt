@@ -19,8 +19,8 @@ use Rattle.model.specs.Corners.{with_limit, fresh, example_met}
 use Rattle.model.proofs.Computed.{shown}
 use Rattle.its.specs.Promises.{Configures, Reads, Writes, Translates}
 use Rattle.host.specs.Calls.{processors_given, none_further, CallConfigures, CallReads, CallWrites, CallTranslates}
-use Rattle.guarantees.specs.MappingsInForce.{Led, begins, a_read, a_translation_lem, a_write}
-use Rattle.guarantees.specs.CallsInForce.{LedByCalls, its_configure_lem, its_read_lem, its_translate_lem, its_write_lem}
+use Rattle.guarantees.specs.MappingsInForce.{Led, begins, a_read, a_translate, a_write}
+use Rattle.guarantees.specs.CallsInForce.{LedByCalls, by_its_configure, by_its_read, by_its_translate, by_its_write}
 use Rattle.guarantees.specs.ExampleCalls.{window, corner_window, row, row_left, number_row, number_row_left, ExampleByEntries, ExampleByCalls}
 
 abbrev after : ItsState → ℕ → ℕ → ℕ → ItsState
@@ -50,7 +50,7 @@ cf = record { answer = refl; numbers = refl }
 
 wr_cbaser : Writes window row unit₀ GITS_CBASER 8 0x8000000040000000 (record { unit = unit₁; answer = Taken 0 0 }) row
 unfolding shown
-wr_cbaser = record { answer = refl; row_left_lem = refl; numbers = refl }
+wr_cbaser = record { answer = refl; row_is = refl; numbers = refl }
 
 rd_cbaser : Reads unit₁ GITS_CBASER 4 (Value 1073741824)
 unfolding shown
@@ -58,11 +58,11 @@ rd_cbaser = record { answer = refl; numbers = refl }
 
 wr_ctlr : Writes window row unit₁ GITS_CTLR 4 1 (record { unit = unit₂; answer = Taken 0 0 }) row
 unfolding shown
-wr_ctlr = record { answer = refl; row_left_lem = refl; numbers = refl }
+wr_ctlr = record { answer = refl; row_is = refl; numbers = refl }
 
 wr_cwriter : Writes window row unit₂ GITS_CWRITER 8 128 (record { unit = unit₃; answer = Taken 4 1 }) row_left
 unfolding shown
-wr_cwriter = record { answer = refl; row_left_lem = refl; numbers = refl }
+wr_cwriter = record { answer = refl; row_is = refl; numbers = refl }
 
 rd_creadr : Reads unit₃ GITS_CREADR 8 (Value 128)
 unfolding shown
@@ -82,11 +82,11 @@ led =
     let to₁ : Led (with_limit 65535) unit₁ [] = a_write (begins _ cf refl) window row GITS_CBASER 8 0x8000000040000000 _ row wr_cbaser in
     let to₂ : Led (with_limit 65535) unit₂ [] = a_write (a_read to₁ GITS_CBASER 4 _ rd_cbaser) window row GITS_CTLR 4 1 _ row wr_ctlr in
     let to₃ : Led (with_limit 65535) unit₃ example_met = a_write to₂ window row GITS_CWRITER 8 128 _ row_left wr_cwriter in
-    a_translation_lem (a_translation_lem (a_read to₃ GITS_CREADR 8 _ rd_creadr) _ _ _ tr_5_9) _ _ _ tr_5_8
+    a_translate (a_translate (a_read to₃ GITS_CREADR 8 _ rd_creadr) _ _ _ tr_5_9) _ _ _ tr_5_8
 
 wr_corner : Writes corner_window row unit₃ GITS_CWRITER 8 192 (record { unit = unit₄; answer = NotTaken OpcodeUnknown 14 160 1 1 }) row_left
 unfolding shown
-wr_corner = record { answer = refl; row_left_lem = refl; numbers = refl }
+wr_corner = record { answer = refl; row_is = refl; numbers = refl }
 
 led_on : Led (with_limit 65535) unit₄ (Int (record { 0 = 5 }) (record { 0 = 9 }) ∷ example_met)
 unfolding shown command_of
@@ -150,11 +150,11 @@ call_tr_5_8 = (refl, refl)
 led_by_calls : LedByCalls (with_limit 65535) unit₃ example_met
 unfolding shown command_of processors_given none_further
 led_by_calls =
-    let to₀ : LedByCalls (with_limit 65535) unit₀ [] = its_configure_lem (65535 ∷ 64 ∷ 65536 ∷ []) (0 ∷ 1 ∷ []) refl unit₀ 0 _ call_cf refl in
-    let to₁ : LedByCalls (with_limit 65535) unit₁ [] = its_write_lem to₀ window number_row GITS_CBASER 8 0x8000000040000000 unit₁ _ _ _ call_wr_cbaser in
-    let to₂ : LedByCalls (with_limit 65535) unit₂ [] = its_write_lem (its_read_lem to₁ GITS_CBASER 4 _ _ call_rd_cbaser) window number_row GITS_CTLR 4 1 unit₂ _ _ _ call_wr_ctlr in
-    let to₃ : LedByCalls (with_limit 65535) unit₃ example_met = its_write_lem to₂ window number_row GITS_CWRITER 8 128 unit₃ _ _ _ call_wr_cwriter in
-    its_translate_lem (its_translate_lem (its_read_lem to₃ GITS_CREADR 8 _ _ call_rd_creadr) 5 9 _ _ call_tr_5_9) 5 8 _ _ call_tr_5_8
+    let to₀ : LedByCalls (with_limit 65535) unit₀ [] = by_its_configure (65535 ∷ 64 ∷ 65536 ∷ []) (0 ∷ 1 ∷ []) refl unit₀ 0 _ call_cf refl in
+    let to₁ : LedByCalls (with_limit 65535) unit₁ [] = by_its_write to₀ window number_row GITS_CBASER 8 0x8000000040000000 unit₁ _ _ _ call_wr_cbaser in
+    let to₂ : LedByCalls (with_limit 65535) unit₂ [] = by_its_write (by_its_read to₁ GITS_CBASER 4 _ _ call_rd_cbaser) window number_row GITS_CTLR 4 1 unit₂ _ _ _ call_wr_ctlr in
+    let to₃ : LedByCalls (with_limit 65535) unit₃ example_met = by_its_write to₂ window number_row GITS_CWRITER 8 128 unit₃ _ _ _ call_wr_cwriter in
+    by_its_translate (by_its_translate (by_its_read to₃ GITS_CREADR 8 _ _ call_rd_creadr) 5 9 _ _ call_tr_5_9) 5 8 _ _ call_tr_5_8
 
 call_wr_corner : CallWrites corner_window number_row unit₃ GITS_CWRITER 8 192 unit₄ number_row_left 20 (20 ∷ 14 ∷ 160 ∷ 1 ∷ 1 ∷ [])
 unfolding shown
@@ -162,7 +162,7 @@ call_wr_corner = record { unit = refl; row = refl; row_reads = refl; told = (ref
 
 led_on_by_calls : LedByCalls (with_limit 65535) unit₄ (Int (record { 0 = 5 }) (record { 0 = 9 }) ∷ example_met)
 unfolding shown command_of
-led_on_by_calls = its_write_lem led_by_calls corner_window number_row GITS_CWRITER 8 192 unit₄ _ _ _ call_wr_corner
+led_on_by_calls = by_its_write led_by_calls corner_window number_row GITS_CWRITER 8 192 unit₄ _ _ _ call_wr_corner
 
 pub example_by_calls : ExampleByCalls
 example_by_calls =

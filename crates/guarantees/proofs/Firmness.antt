@@ -42,7 +42,7 @@ firm_translate u d e a b p q = p.answer ∙ sym q.answer
 
 -- the answer with the unit by one equation, the row by another
 pub firm_write : (w : Window) (row : List ItsAction) (u : ItsState) (offset width value : ℕ) → Firm Outcome (WritesBoth w row u offset width value)
-firm_write w row u offset width value a b p q = ap₂ (λ r left. record { written = r; row = left }) (p.answer ∙ sym q.answer) (p.row_left_lem ∙ sym q.row_left_lem)
+firm_write w row u offset width value a b p q = ap₂ (λ r left. record { written = r; row = left }) (p.answer ∙ sym q.answer) (p.row_is ∙ sym q.row_is)
 
 pub firm_write_lent : (w : Window) (room : ℕ) (u : ItsState) (offset width value : ℕ) → Firm WrittenRow (WritesLent w room u offset width value)
 firm_write_lent w room u offset width value a b p q = p.answer ∙ sym q.answer
@@ -105,7 +105,7 @@ answered_entries =
       no_unit = (answers_no_unit, refl);
       configure = λ k. (configure k, record { answer = refl; numbers = refl });
       read_its = λ u offset width. (read u offset width, record { answer = refl; numbers = refl });
-      write_its = λ w row u offset width value. (write w row u offset width value, record { answer = refl; row_left_lem = refl; numbers = refl });
+      write_its = λ w row u offset width value. (write w row u offset width value, record { answer = refl; row_is = refl; numbers = refl });
       write_lent = λ w room u offset width value.
           let o = write w (take room lent_row) u offset width value in
           (beside_row o.written (o.row ++ drop room lent_row), record { answer = refl; numbers = refl });

@@ -59,7 +59,7 @@ module _ (w : Window) (row : List ItsAction) (u : ItsState) (offset width value 
       CBASER_Valid of (stores row u offset width value).registers.cbaser ≡ 0 → OnlyStores row u (stores row u offset width value) r left
   unfolding held
   held_stores r left e s runs clear =
-      rw (e.answer, e.row_left_lem) (held_by_way (way w row u offset width value) runs (rw (is_strict_lem u.config s, clear) refl))
+      rw (e.answer, e.row_is) (held_by_way (way w row u offset width value) runs (rw (is_strict_lem u.config s, clear) refl))
 
 -- a profile that there is not
 not_configured : (k : ItsConfig) → 1 < k.profile → (configure k).verdict ≡ Refused Unsound

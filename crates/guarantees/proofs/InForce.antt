@@ -14,7 +14,7 @@ use Rattle.model.proofs.Profiles.{is_strict_lem}
 use Rattle.model.proofs.Held.{Held, configured_held, write_held, promised, translates, nowhere, only_8}
 use Rattle.guarantees.specs.Actions.{passed_by, ActionsGiven}
 use Rattle.guarantees.specs.Kept.{CommandsKept}
-use Rattle.guarantees.specs.MappingsInForce.{Led, begins, a_read, a_translation_lem, a_write, OfWritesTo, MappingsInForce}
+use Rattle.guarantees.specs.MappingsInForce.{Led, begins, a_read, a_translate, a_write, OfWritesTo, MappingsInForce}
 use Rattle.guarantees.proofs.Kept.{commands_kept}
 use Rattle.guarantees.proofs.Unsound.{sound_never_1}
 use Rattle.guarantees.proofs.Along.{actions_held}
@@ -23,7 +23,7 @@ use Rattle.guarantees.proofs.Along.{actions_held}
 pub held : {k : ItsConfig} {u : ItsState} {h : List Command} → Led k u h → Held k u h
 held {k} (begins c e a) = subst (λ z. Held k z.unit []) (sym e.answer) (configured_held k (ap (λ z. z.verdict) (sym e.answer) ∙ a))
 held (a_read l offset width r e) = held l
-held (a_translation_lem l d e r q) = held l
+held (a_translate l d e r q) = held l
 held {k} (a_write {u = u} {h = h} l w row offset width value r left e) =
     subst (λ z. Held k z.unit (passed_by w u z ++ h)) (sym e.answer) (write_held (held l) w row offset width value)
 

@@ -78,4 +78,4 @@ module _ (w : Window) (row : List ItsAction) (u : ItsState) (offset width value 
         rw e.answer (ring_by_run sound (as_run w row u offset width value sound y) (idle y))
 
     pub commands_kept : CommandsKept w row u (stores row u offset width value) r left
-    commands_kept = rw (e.answer, e.row_left_lem) (commands_by_way (way w row u offset width value))
+    commands_kept = rw (e.answer, e.row_is) (commands_by_way (way w row u offset width value))

@@ -116,7 +116,7 @@ module _ (w : Window) (row : List ItsAction) (u : ItsState) (offset width value 
             let same = ctlr_same v.unit row' sound room value' (may_enabled v.unit.config v.unit.registers may) enabling in
             again_refused row' GITS_CTLR 4 value' r left' e' v.unit.registers same may refl (stall_base v.unit in_base);
         waits = λ y w' row' offset' width' value' r left' e' runs no_retry. stalled_stores w' row' v.unit offset' width' value' r left' e' y (stalled y) runs no_retry;
-        with_retry_lem = λ y w' row' width' value' r left' e' bit taken no-5 some_wait.
+        by_retry = λ y w' row' width' value' r left' e' bit taken no-5 some_wait.
             let goes = retry_goes v.unit row' width' value' (is_strict_lem v.unit.config y) bit (accepted_stores w' row' width' value' r left' e' taken) in
             let may : may_run v.unit.config (stores row' v.unit GITS_CWRITER width' value').registers ≡ true =
             ap (λ s. may_run v.unit.config s.registers) goes ∙ (may_writer v.unit.config v.unit.registers _ ∙ q.may_still) in

@@ -49,7 +49,7 @@ module _ (u : ItsState) (b : u.config.profile ≡ 0) where
         translates = λ d e r q. q.answer ∙ base_translates u b d e;
         writes = λ w row offset width value r left e.
             let same = base_writes u b w row offset width value in
-            (e.answer ∙ ap (λ o. o.written) same, e.row_left_lem ∙ ap (λ o. o.row) same);
+            (e.answer ∙ ap (λ o. o.written) same, e.row_is ∙ ap (λ o. o.row) same);
         stays_base = λ w row offset width value r left e. ap (λ k. k.profile) (commands_follow w row u offset width value r left e).config ∙ b;
         call_reads = λ offset width r told c. subst (λ a. Tells (numbers_of_read a) r told) (base_reads u b offset width) c;
         call_translates = λ device event r told c.
@@ -69,7 +69,7 @@ strict_as_01 u s =
     let y = is_strict_lem u.config s in
     record {
       stores_as = λ row offset width value. strict_stores u y offset width value row;
-      may_run_lem = strict_runs u y;
+      runs_while = strict_runs u y;
       reads = λ offset width r e out. e.answer ∙ strict_reads u y offset width out;
       translates = λ d e r q. q.answer ∙ strict_translates u y d e;
     }

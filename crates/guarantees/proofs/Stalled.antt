@@ -46,8 +46,8 @@ use Rattle.model.proofs.Ways.{Stored, Way, checked, no_base, no_writer, quiet, b
 use Rattle.its.specs.Promises.{Reads, Writes}
 use Rattle.guarantees.specs.Refusals.{at_entry, at_cwriter, at_command, given_at, IfRefused}
 use Rattle.guarantees.specs.Profiles.{OnlyStores}
-use Rattle.guarantees.specs.MappingsInForce.{Led, begins, a_read, a_translation_lem, a_write}
-use Rattle.guarantees.specs.CallsInForce.{LedByCalls, its_configure_lem, its_read_lem, its_translate_lem, its_write_lem}
+use Rattle.guarantees.specs.MappingsInForce.{Led, begins, a_read, a_translate, a_write}
+use Rattle.guarantees.specs.CallsInForce.{LedByCalls, by_its_configure, by_its_read, by_its_translate, by_its_write}
 use Rattle.guarantees.specs.Stalled.{of_command, stopped, afterwards, accepted, with_retry, stores_base, Mark, stops, clears as clears-it, leaves, mark_with, mark_by, mark_of, marked, StalledKept, trail, StoppedSince, just_now, still, stopped_told, accepted_told, mark_told, trail_told, StalledShown, Unread}
 use Rattle.guarantees.proofs.Reasons.{Only, Entries, write_only, staying}
 use Rattle.guarantees.proofs.Refused.{refusal_kept}
@@ -184,7 +184,7 @@ module _ (w : Window) (row : List ItsAction) (u : ItsState) (offset width value 
     stalled_kept =
         let kept = refusal_kept w row u offset width value r left e in
         record {
-          in_strict_lem = λ y. strict_bit (is_strict_lem u.config y);
+          if_strict = λ y. strict_bit (is_strict_lem u.config y);
           in_base = λ b. base_bit (is_base u.config b);
           at_the_entry = λ why place opcode at done actions h. entry why place opcode at done actions h;
           over_budget = λ y opcode at done actions h.
@@ -226,9 +226,9 @@ fresh_clear k = cases (sound_config k) (λ y. rw y) (λ n. rw n)
 bit_led : {k : ItsConfig} {u : ItsState} {h : List Command} (l : Led k u h) → profile_of k ≡ strict → u.registers.stalled ≡ last_of (trail l)
 bit_led {k} (begins c e a) y = ap (λ z. z.unit.registers.stalled) e.answer ∙ fresh_clear k
 bit_led (a_read l offset width r e) y = bit_led l y
-bit_led (a_translation_lem l d e r q) y = bit_led l y
+bit_led (a_translate l d e r q) y = bit_led l y
 bit_led (a_write {u = u} l w row offset width value r left e) y =
-    (stalled_kept w row u offset width value r left e).in_strict_lem (ap profile_of (mappings_in_force l).config ∙ y)
+    (stalled_kept w row u offset width value r left e).if_strict (ap profile_of (mappings_in_force l).config ∙ y)
     ∙ ap (marked (mark_of u offset value r.answer)) (bit_led l y)
 
 pub stalled_exactly : {k : ItsConfig} {u : ItsState} {h : List Command} → (l : Led k u h) → profile_of k ≡ strict → (u.registers.stalled ≡ true) ↔ StoppedSince (trail l)
@@ -263,12 +263,12 @@ mark_told_lem u offset value (Taken done actions) = refl
 mark_told_lem u offset value (NotTaken why opcode at done actions) = ap₂ (λ x y. mark_by x y u offset value) (place_told why).0 (place_told why).1
 
 bit_told : {k : ItsConfig} {u : ItsState} {h : List Command} (l : LedByCalls k u h) → profile_of k ≡ strict → u.registers.stalled ≡ last_of (trail_told l)
-bit_told (its_configure_lem ss ps e u r told c z) y = ap (λ v. v.registers.stalled) c.0 ∙ fresh_clear _
-bit_told (its_read_lem l offset width r told c) y = bit_told l y
-bit_told (its_translate_lem l device event r told c) y = bit_told l y
-bit_told (its_write_lem {u = u} l w row offset width value left after r told c) y =
+bit_told (by_its_configure ss ps e u r told c z) y = ap (λ v. v.registers.stalled) c.0 ∙ fresh_clear _
+bit_told (by_its_read l offset width r told c) y = bit_told l y
+bit_told (by_its_translate l device event r told c) y = bit_told l y
+bit_told (by_its_write {u = u} l w row offset width value left after r told c) y =
     let (a, (x, t)) = call_writes w row u offset width value left after r told c in
-    (stalled_kept w _ u offset width value _ _ x).in_strict_lem (ap profile_of (mappings_in_force (led_by_calls l)).config ∙ y)
+    (stalled_kept w _ u offset width value _ _ x).if_strict (ap profile_of (mappings_in_force (led_by_calls l)).config ∙ y)
     ∙ (ap (λ m. marked m u.registers.stalled) (sym (ap (λ n. mark_by (stopped_told (get_or n 0 0)) (accepted_told (get_or n 0 0)) u offset value) t.0 ∙ mark_told_lem u offset value a))
     ∙ ap (marked (mark_told u offset value told)) (bit_told l y))
 
@@ -288,7 +288,7 @@ module _ (w : Window) (row : List ItsAction) (u : ItsState) (offset width value 
       let no_base : s.rebased ≡ false = cases s.rebased (λ b. never s.runs runs (base_quiet w row u offset width value there b)) (λ n. n) in
       let no_bit : (eqb offset GITS_CWRITER && eqb (CWRITER_Retry of value) 1) ≡ false = cases (eqb offset GITS_CWRITER) (λ at. rw (at, no_retry (eqb-true offset GITS_CWRITER at))) (λ n. rw n) in
       let stays : s.registers.stalled ≡ true = stored_stalled_lem u offset width value row ∙ rw (is_strict_lem u.config y, no_base, runs, no_bit, stalled) refl in
-      rw (e.answer, e.row_left_lem)
+      rw (e.answer, e.row_is)
       (held_by_way w row u offset width value there runs (rw (is_strict_lem u.config y, stays) (or_on (eqb (CBASER_Valid of s.registers.cbaser) 0))))
 
 -- WHAT CREADR SHOWS.
@@ -338,7 +338,7 @@ module _ (u : ItsState) (sound : sound_unit u ≡ true) where
   pub stalled_shown : StalledShown u
   stalled_shown =
       record {
-        in_strict_lem = λ y. shows _ (bit_small u.registers.stalled) (value_strict (is_strict_lem u.config y));
+        if_strict = λ y. shows _ (bit_small u.registers.stalled) (value_strict (is_strict_lem u.config y));
         high = λ r e. e.answer ∙ high_so;
         in_base = λ b. shows _ (omega (arith, small)) (creadr_plain u.config u.registers (rw (is_base u.config b)));
       }

@@ -41,7 +41,7 @@ stays_base s b (CF k) c = configured_base k c
 stays_base s b (GM w) c = b
 stays_base s b (RD offset width) c = b
 stays_base s b (WR offset width value) c =
-    ap (λ k. k.profile) (commands_follow s.window lent_row s.unit offset width value _ _ (record { answer = refl; row_left_lem = refl; numbers = refl })).config ∙ b
+    ap (λ k. k.profile) (commands_follow s.window lent_row s.unit offset width value _ _ (record { answer = refl; row_is = refl; numbers = refl })).config ∙ b
 stays_base s b (TR d e) c = b
 
 next_as_01 : (s : Running) → s.unit.config.profile ≡ 0 → (r : Record) → InBase r → next s r ≡ next_in01 s r
@@ -89,7 +89,7 @@ both_configured k b w w' e = (e, by_verdict (configure (with_profile k 0)).verdi
 stays_clear : (s : Running) → Clear s.unit → (offset width value : ℕ) → (write_of s offset width value).written.unit.registers.stalled ≡ false
 unfolding write_of
 stays_clear s b offset width value =
-    base_bit s.window lent_row s.unit offset width value _ _ (record { answer = refl; row_left_lem = refl; numbers = refl }) (rw b.0) ∙ b.1
+    base_bit s.window lent_row s.unit offset width value _ _ (record { answer = refl; row_is = refl; numbers = refl }) (rw b.0) ∙ b.1
 
 same_next : (s : Running) (v : ItsState) → v ≡ s.unit → (r : Record) → InBase r → (t : Window) → t ≡ s.window →
     (lines_of (record { unit = v; window = t }) (in_strict r) ≡ lines_of s r) × Beside (next s r) (next (record { unit = v; window = t }) (in_strict r))

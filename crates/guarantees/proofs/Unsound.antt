@@ -38,7 +38,7 @@ unsound_answers_1 u no-ring =
     record {
       reads = λ offset width r e. e.answer ∙ rw no-ring;
       translates = λ d e r q. q.answer ∙ rw no-ring;
-      writes = λ w row offset width value r left e. (e.answer ∙ rw no-ring, e.row_left_lem ∙ rw no-ring);
+      writes = λ w row offset width value r left e. (e.answer ∙ rw no-ring, e.row_is ∙ rw no-ring);
     }
 
 no_unit_unsound : sound_unit answers_no_unit ≡ false

@@ -19,14 +19,14 @@ use Rattle.guarantees.specs.MappingsInForce.{MappingsInForce}
 -- carried out are h, the last one first.
 pub data LedByCalls (k : ItsConfig) : ItsState → List Command → Type 0 where
   -- a configuration that was not refused, and no command yet
-  its_configure_lem : (ss ps : List ℕ) → k ≡ config_given ss ps → (u : ItsState) (r : ℕ) (told : List ℕ) → CallConfigures ss ps u r told → r ≡ 0 → LedByCalls k u []
+  by_its_configure : (ss ps : List ℕ) → k ≡ config_given ss ps → (u : ItsState) (r : ℕ) (told : List ℕ) → CallConfigures ss ps u r told → r ≡ 0 → LedByCalls k u []
   -- a read, and a translation: the numbers are lent to be read only
-  its_read_lem : {u : ItsState} {h : List Command} → LedByCalls k u h → (offset width r : ℕ) (told : List ℕ) → CallReads u offset width r told → LedByCalls k u h
-  its_translate_lem : {u : ItsState} {h : List Command} → LedByCalls k u h → (device event r : ℕ) (told : List ℕ) → CallTranslates u device event r told →
+  by_its_read : {u : ItsState} {h : List Command} → LedByCalls k u h → (offset width r : ℕ) (told : List ℕ) → CallReads u offset width r told → LedByCalls k u h
+  by_its_translate : {u : ItsState} {h : List Command} → LedByCalls k u h → (device event r : ℕ) (told : List ℕ) → CallTranslates u device event r told →
       LedByCalls k u h
   -- a write, with any window and any row. The commands that it adds are read from the window at the old CREADR and on, as many as the fourth number
   -- told says were done
-  its_write_lem : {u : ItsState} {h : List Command} → LedByCalls k u h → (w : Window) (row : List ℕ) (offset width value : ℕ) (left : ItsState)
+  by_its_write : {u : ItsState} {h : List Command} → LedByCalls k u h → (w : Window) (row : List ℕ) (offset width value : ℕ) (left : ItsState)
       (after : List ℕ) (r : ℕ) (told : List ℕ) → CallWrites w row u offset width value left after r told →
       LedByCalls k left (passed_told w u told ++ h)
 

@@ -46,7 +46,7 @@ pub record ExampleStrict : Type 0 where
   pub stopped : ItsState
   pub wr_stopped : Writes stop_window row again GITS_CWRITER 8 192 (record { unit = stopped; answer = NotTaken OpcodeUnknown 14 160 0 0 }) row
   pub led_stopped : Led (configured 65535 1) stopped (mapd 4 ∷ example_met)
-  pub is_stalled_lem : stopped.registers.stalled ≡ true
+  pub stalled_there : stopped.registers.stalled ≡ true
   -- WR 0 0 0 1 0: 192 with Retry goes on, and the unit is no longer stalled
   pub went_on : ItsState
   pub wr_retry : Writes sync_window row stopped GITS_CWRITER 8 193 (record { unit = went_on; answer = Taken 1 0 }) row

@@ -41,7 +41,7 @@ pub data Led (k : ItsConfig) : ItsState → List Command → Type 0 where
   -- a read leaves the unit as it is
   a_read : {u : ItsState} {h : List Command} → Led k u h → (offset width : ℕ) (r : ReadAnswer) → Reads u offset width r → Led k u h
   -- and so does a translation
-  a_translation_lem : {u : ItsState} {h : List Command} → Led k u h → (d : ItsDeviceId) (e : EventId) (r : TranslateAnswer) → Translates u d e r → Led k u h
+  a_translate : {u : ItsState} {h : List Command} → Led k u h → (d : ItsDeviceId) (e : EventId) (r : TranslateAnswer) → Translates u d e r → Led k u h
   -- a write, with any window and any row, leads to the unit that it answers. The commands that it adds are read from the window at the old CREADR
   -- and on, as many as the answer says were done
   a_write : {u : ItsState} {h : List Command} → Led k u h → (w : Window) (row : List ItsAction) (offset width value : ℕ) (r : Written) (left : List ItsAction) →

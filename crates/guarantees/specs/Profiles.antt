@@ -74,7 +74,7 @@ pub record StrictAs01 (u : ItsState) : Type 0 where
   pub stores_as : (row : List ItsAction) (offset width value : ℕ) →
       stores row u offset width value ≡ stored_stalled (stores_in01 row u offset width (without_retry offset value)) (stores row u offset width value).registers.stalled
   -- the queue runs in an enabled unit while bit 63 of CBASER is 1 and it is not stalled
-  pub may_run_lem : (r : ItsRegisters) → may_run u.config r ≡ (r.enabled && (eqb (CBASER_Valid of r.cbaser) 1 && not r.stalled))
+  pub runs_while : (r : ItsRegisters) → may_run u.config r ≡ (r.enabled && (eqb (CBASER_Valid of r.cbaser) 1 && not r.stalled))
   -- every read that is not of CREADR, and every translation, is 01's
   pub reads : (offset width : ℕ) (r : ReadAnswer) → Reads u offset width r → lies_in GITS_CREADR offset ≡ false → r ≡ read_in01 u offset width
   pub translates : (d : ItsDeviceId) (e : EventId) (r : TranslateAnswer) → Translates u d e r → r ≡ translate_in01 u d e

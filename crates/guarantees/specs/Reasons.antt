@@ -84,7 +84,7 @@ pub record TooLarge (u : ItsState) (x : Command) : Type 0 where
 -- `Because u x why`: why the unit u refuses the command x.
 pub data Because (u : ItsState) : Command → Refusal → Type 0 where
   -- 27: before any other check
-  too_large_lem : {x : Command} → TooLarge u x → Because u x DeviceTooLarge
+  above_16_bits : {x : Command} → TooLarge u x → Because u x DeviceTooLarge
   -- the others, of a command whose device is not too large
   in_01 : {x : Command} {why : Refusal} → (TooLarge u x → ⊥) → BecauseIn01 u x why → Because u x why
 

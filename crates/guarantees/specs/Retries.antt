@@ -73,7 +73,7 @@ pub record TriedLater (w : Window) (v : Written) (why : Refusal) (opcode offset 
       Writes w' row v.unit offset' width value r left → (stores row v.unit offset' width value).runs ≡ true → (offset' ≡ GITS_CWRITER → CWRITER_Retry of value ≡ 0) →
       OnlyStores row v.unit (stores row v.unit offset' width value) r left
   -- one of CWRITER with Retry that is accepted, and not answered with 5, begins there, with any window, while commands wait
-  pub with_retry_lem : profile_of v.unit.config ≡ strict → (w' : Window) (row : List ItsAction) (width value : ℕ) (r : Written) (left : List ItsAction) →
+  pub by_retry : profile_of v.unit.config ≡ strict → (w' : Window) (row : List ItsAction) (width value : ℕ) (r : Written) (left : List ItsAction) →
       Writes w' row v.unit GITS_CWRITER width value r left → CWRITER_Retry of value ≡ 1 → accepted r.answer ≡ true → IfRefused r BudgetExceeded (λ opcode at done actions. ⊥) →
       0 < waiting (stores row v.unit GITS_CWRITER width value).registers → TriesAgain w' row v.unit (stores row v.unit GITS_CWRITER width value) r left
   -- and with the same window, CWRITER written as it is, with Retry, is refused in the same way

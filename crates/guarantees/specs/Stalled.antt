@@ -21,8 +21,8 @@ use Rattle.model.specs.With.{unit_stalled}
 use Rattle.its.specs.Promises.{Reads}
 use Rattle.guarantees.specs.Alike.{Alike}
 use Rattle.guarantees.specs.Refusals.{Given, at_entry, at_cwriter, at_budget, at_command, at_output, given_at, IfRefused}
-use Rattle.guarantees.specs.MappingsInForce.{Led, begins, a_read, a_translation_lem, a_write}
-use Rattle.guarantees.specs.CallsInForce.{LedByCalls, its_configure_lem, its_read_lem, its_translate_lem, its_write_lem}
+use Rattle.guarantees.specs.MappingsInForce.{Led, begins, a_read, a_translate, a_write}
+use Rattle.guarantees.specs.CallsInForce.{LedByCalls, by_its_configure, by_its_read, by_its_translate, by_its_write}
 
 -- WHAT AN ANSWER SAYS.
 
@@ -91,7 +91,7 @@ marked leaves b = b
 -- OF ONE WRITE, to any unit. u is the unit before it, and r what it leaves and answers.
 pub record StalledKept (u : ItsState) (offset value : ℕ) (r : Written) : Type 0 where
   -- in strict
-  pub in_strict_lem : profile_of u.config ≡ strict → r.unit.registers.stalled ≡ marked (mark_of u offset value r.answer) u.registers.stalled
+  pub if_strict : profile_of u.config ≡ strict → r.unit.registers.stalled ≡ marked (mark_of u offset value r.answer) u.registers.stalled
   -- in base it is never written
   pub in_base : profile_of u.config ≡ base → r.unit.registers.stalled ≡ u.registers.stalled
   -- by the number of the refusal: 1, 10, 2, 3, 4 and 7 leave it
@@ -107,7 +107,7 @@ pub record StalledKept (u : ItsState) (offset value : ℕ) (r : Written) : Type 
 abbrev pub trail : {k : ItsConfig} {u : ItsState} {h : List Command} → Led k u h → List Mark
 trail (begins c e a) = []
 trail (a_read l offset width r e) = trail l
-trail (a_translation_lem l d e r q) = trail l
+trail (a_translate l d e r q) = trail l
 trail (a_write {u = u} l w row offset width value r left e) = mark_of u offset value r.answer ∷ trail l
 
 -- the last run was stopped by a command, and neither of the two came since
@@ -126,10 +126,10 @@ abbrev pub mark_told : ItsState → ℕ → ℕ → List ℕ → Mark
 mark_told u offset value told = mark_by (stopped_told (get_or told 0 0)) (accepted_told (get_or told 0 0)) u offset value
 
 abbrev pub trail_told : {k : ItsConfig} {u : ItsState} {h : List Command} → LedByCalls k u h → List Mark
-trail_told (its_configure_lem ss ps e u r told c z) = []
-trail_told (its_read_lem l offset width r told c) = trail_told l
-trail_told (its_translate_lem l device event r told c) = trail_told l
-trail_told (its_write_lem {u = u} l w row offset width value left after r told c) = mark_told u offset value told ∷ trail_told l
+trail_told (by_its_configure ss ps e u r told c z) = []
+trail_told (by_its_read l offset width r told c) = trail_told l
+trail_told (by_its_translate l device event r told c) = trail_told l
+trail_told (by_its_write {u = u} l w row offset width value left after r told c) = mark_told u offset value told ∷ trail_told l
 
 -- BASE DOES NOT READ IT: with b in the place of the bit, in a unit that may be built by hand, every read, translation and write, by value and by the C calls, is
 -- the same; and b stays there.
@@ -139,7 +139,7 @@ Unread u b = Alike (λ v. unit_stalled v b) (λ w row offset width value. Unit {
 -- STALLED IS SHOWN, of a unit whose configuration and ring are sound.
 pub record StalledShown (u : ItsState) : Type 0 where
   -- in strict CREADR reads its offset, plus 1 if the unit is stalled: at 8 bytes, and in the low half
-  pub in_strict_lem : profile_of u.config ≡ strict → (width : ℕ) → (width ≡ 8) ⊎ (width ≡ 4) → (r : ReadAnswer) → Reads u GITS_CREADR width r →
+  pub if_strict : profile_of u.config ≡ strict → (width : ℕ) → (width ≡ 8) ⊎ (width ≡ 4) → (r : ReadAnswer) → Reads u GITS_CREADR width r →
       r ≡ Value (u.registers.creadr + one_if u.registers.stalled)
   -- nothing of it in the high half
   pub high : (r : ReadAnswer) → Reads u (GITS_CREADR + 4) 4 r → r ≡ Value 0

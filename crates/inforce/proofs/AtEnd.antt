@@ -32,7 +32,7 @@ unfolding write_of
 written s offset width value h = on_unit h
   where
     wrote : Writes s.window lent_row s.unit offset width value (write s.window lent_row s.unit offset width value).written (write s.window lent_row s.unit offset width value).row
-    wrote = record { answer = refl; row_left_lem = refl; numbers = refl }
+    wrote = record { answer = refl; row_is = refl; numbers = refl }
 
     on_unit : Standing s.unit → Standing (write s.window lent_row s.unit offset width value).written.unit
     on_unit (inl e) = inl (ap (λ r. r.unit) ((no_unit_answers_1 s.unit e).writes s.window lent_row offset width value _ _ wrote).0 ∙ e)

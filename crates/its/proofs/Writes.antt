@@ -112,4 +112,4 @@ module _ (w : Window) (row : List ItsAction) (u : ItsState) (offset width value 
       (r ≡ (end_of w t row).written) × (left ≡ (end_of w t row).row) → Writes w row u offset width value r left
   writes e h =
       let a = h.0 ∙ (ap (λ t. (end_of w t row).written) e ∙ ap (λ o. o.written) ends) in
-      record { answer = a; row_left_lem = h.1 ∙ (ap (λ t. (end_of w t row).row) e ∙ ap (λ o. o.row) ends); numbers = ap (λ r. write_numbers r.answer) a }
+      record { answer = a; row_is = h.1 ∙ (ap (λ t. (end_of w t row).row) e ∙ ap (λ o. o.row) ends); numbers = ap (λ r. write_numbers r.answer) a }

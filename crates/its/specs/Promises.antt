@@ -37,7 +37,7 @@ pub record Reads (u : ItsState) (offset width : ℕ) (r : ReadAnswer) : Type 0 w
 pub record Writes (w : Window) (row : List ItsAction) (u : ItsState) (offset width value : ℕ) (r : Written) (left : List ItsAction) : Type 0 where
   -- unit and answer
   pub answer : r ≡ (write w row u offset width value).written
-  pub row_left_lem : left ≡ (write w row u offset width value).row
+  pub row_is : left ≡ (write w row u offset width value).row
   pub numbers : write_numbers r.answer ≡ write_tells w row u offset width value
 
 -- what a write answers, beside the row as it is left

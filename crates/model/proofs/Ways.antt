@@ -166,7 +166,7 @@ module _ (w : Window) (row : List ItsAction) (u : ItsState) (offset width value 
     -- the unit but for Stalled, done and the row are those of the run
     pub unit : o.written.unit ≡ unit_stalled (run w n (with_registers u s.registers)).unit o.written.unit.registers.stalled
     pub done : (write_numbers o.written.answer).done ≡ (run w n (with_registers u s.registers)).done
-    pub row_left_lem : o.row ≡ row_after (run w n (with_registers u s.registers)).actions row
+    pub row_is : o.row ≡ row_after (run w n (with_registers u s.registers)).actions row
     -- nothing is run with a new base, nor where the queue may not run
     pub new_base : s.rebased ≡ true → n ≡ 0
     pub may_not : may_run u.config s.registers ≡ false → n ≡ 0
@@ -187,7 +187,7 @@ module _ (w : Window) (row : List ItsAction) (u : ItsState) (offset width value 
         budget = omega arith;
         unit = v;
         done = d;
-        row_left_lem = l;
+        row_is = l;
         new_base = λ b. refl;
         may_not = λ e. refl;
         same_base = λ _. b;
@@ -208,7 +208,7 @@ module _ (w : Window) (row : List ItsAction) (u : ItsState) (offset width value 
         budget = omega arith;
         unit = refl;
         done = refl;
-        row_left_lem = refl;
+        row_is = refl;
         new_base = λ b. refl;
         may_not = λ e. refl;
         same_base = λ b. never true refl b;
@@ -226,7 +226,7 @@ module _ (w : Window) (row : List ItsAction) (u : ItsState) (offset width value 
         budget = within;
         unit = halted-unit q;
         done = ap (λ z. (write_numbers z).done) (halted-answer q) ∙ done-of q q.stopped;
-        row_left_lem = refl;
+        row_is = refl;
         new_base = λ b. never true refl (sym b);
         may_not = λ e. never (may_run u.config s) on e;
         same_base = λ _. g.base;
