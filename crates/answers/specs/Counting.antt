@@ -1,7 +1,7 @@
 -- The counts of a run, as the code of both texts keeps them: what a turn of the model makes of them, and what they answer at the end. No sentence of
 -- document 01 stands here: proofs/Counting.antt shows that the counts are the model's run.
 -- Assumes nothing.
-use Rattle.std.specs.Prelude.{ℕ, ◌+◌, ◌-◌, Bool, true, false, List, [], ◌∷◌}
+use Rattle.std.specs.Prelude.{ℕ, ◌+◌, ◌-◌, Bool, true, false, List, [], ◌∷◌, if◌then◌else◌}
 use Rattle.std.proofs.Math.Option.{Option, none, some}
 use Rattle.model.specs.declared.ItsState.{ItsState}
 use Rattle.model.specs.declared.ItsAction.{ItsAction}
@@ -9,7 +9,6 @@ use Rattle.model.specs.declared.Refusal.{Refusal}
 use Rattle.model.specs.declared.Refusal.TheVariants.{BudgetExceeded}
 use Rattle.model.specs.declared.WriteAnswer.{WriteAnswer}
 use Rattle.model.specs.declared.WriteAnswer.TheVariants.{Taken, NotTaken}
-use Rattle.model.specs.Choose.{if◌then◌else◌}
 use Rattle.model.specs.Step.{actions_of}
 use Rattle.model.specs.Queue.{Turn, passes, stays, carry_out, Stop, stall}
 use Rattle.answers.specs.declared.Stopped.{Stopped}

@@ -1,6 +1,7 @@
 -- THE UNIT DOES WHAT ARM SAYS, under the conditions of specs/Conditions.antt: one command, any number of them from a fresh unit, INT and CLEAR,
 -- and the translation of a message.
 -- Assumes nothing.
+use Rattle.std.specs.Prelude.{if◌then◌else◌}
 use mathlib.Core.Path.{◌≡◌, refl, ◌∙◌}
 use mathlib.Core.Bool.{false}
 use mathlib.Core.List.{List, [], ◌∷◌}
@@ -8,7 +9,7 @@ use mathlib.Core.Option.{Option, none, some}
 use Rattle.model.specs.declared.ItsConfig.{ItsConfig}
 use Rattle.model.specs.declared.ItsState.{ItsState}
 use Rattle.model.specs.declared.Command.{Command}
-use Rattle.model.specs.Choose.{if◌then◌else◌, if_found}
+use Rattle.model.specs.Choose.{if_found}
 use Rattle.model.specs.Config.{fresh_unit}
 use Rattle.model.specs.Step.{effect, accepts, stepped}
 use Rattle.model.proofs.Cases.{cases}

@@ -1,5 +1,6 @@
 -- Type and Entry_Size of every GITS_BASER stay under every write: to any offset, of any width, refused or not.
 -- Assumes nothing.
+use Rattle.std.specs.Prelude.{if◌then◌else◌}
 use Prim.Native.Nat.{ℕ, ◌<◌}
 use mathlib.Core.Path.{◌≡◌, refl, sym, ap}
 use mathlib.Core.Bool.{Bool, true, false, not}
@@ -18,7 +19,7 @@ use Rattle.model.specs.declared.RegisterWrite.{RegisterWrite}
 use Rattle.model.specs.declared.Refusal.TheVariants.{BaseZero}
 use Rattle.model.specs.declared.Verdict.{Verdict}
 use Rattle.model.specs.declared.Verdict.TheVariants.{Accepted, Refused}
-use Rattle.model.specs.Choose.{if◌then◌else◌, ◌or◌then◌}
+use Rattle.model.specs.Choose.{◌or◌then◌}
 use Rattle.model.specs.With.{with_writer}
 use Rattle.model.specs.Profile.{is_strict}
 use Rattle.model.specs.Config.{queue_base, sound_unit}

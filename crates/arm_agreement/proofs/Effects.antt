@@ -1,5 +1,6 @@
 -- What an accepted command does to the unit's mappings is what Arm says that it does, under the conditions of specs/Conditions.antt.
 -- Assumes nothing.
+use Rattle.std.specs.Prelude.{if◌then◌else◌}
 use Prim.Native.Nat.{ℕ, ◌+◌}
 use mathlib.Core.Path.{◌≡◌, refl, sym, ap, ◌∙◌}
 use mathlib.Core.Bool.{true, false, ◌&&◌}
@@ -12,7 +13,7 @@ use Rattle.model.specs.declared.Translation.{Translation}
 use Rattle.model.specs.declared.ItsState.{ItsState}
 use Rattle.model.specs.declared.Command.{Command}
 use Rattle.model.specs.declared.Command.TheVariants.{Mapd, Mapc, Mapti, Mapi, Movi, Discard}
-use Rattle.model.specs.Choose.{if◌then◌else◌, when_found, if_found}
+use Rattle.model.specs.Choose.{when_found, if_found}
 use Rattle.model.specs.Profile.{profile_of, mapd_ends}
 use Rattle.model.specs.Step.{collection_of, translation_of, effect, accepts}
 use Rattle.model.specs.History.{after, Says, maps_it, unmaps_it, silent, of_device_says, of_collection_says, Part, maps, moves, ends, ends_in, leaves, part_in, PairEntry, pair_after}

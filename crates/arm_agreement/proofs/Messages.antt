@@ -1,5 +1,6 @@
 -- A message is translated as Arm translates it, and INT and CLEAR signal the interrupt that Arm says.
 -- Assumes nothing.
+use Rattle.std.specs.Prelude.{if◌then◌else◌}
 use Prim.Native.Nat.{ℕ}
 use mathlib.Core.Path.{◌≡◌, refl}
 use mathlib.Core.Bool.{Bool, true, false}
@@ -12,7 +13,7 @@ use Rattle.model.specs.declared.ItsState.{ItsState}
 use Rattle.model.specs.declared.Command.TheVariants.{Int, Clear}
 use Rattle.model.specs.declared.Refusal.TheVariants.{ResourceNotFound}
 use Rattle.model.specs.declared.TranslateAnswer.TheVariants.{Delivered, NotDelivered}
-use Rattle.model.specs.Choose.{if◌then◌else◌, when_found, if_found, list_of}
+use Rattle.model.specs.Choose.{when_found, if_found, list_of}
 use Rattle.model.specs.Keys.{delivery}
 use Rattle.model.specs.Step.{collection_of, translation_of, delivery_in, action_to, actions_on, actions_of}
 use Rattle.model.specs.Entry.{translate}

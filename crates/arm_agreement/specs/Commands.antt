@@ -1,8 +1,7 @@
 -- Arm's commands and how four doublewords are read as one: by docs/ARM.md's commands (F38 to F46) and the fields of Arm.antt alone.
 -- Assumes nothing.
-use Rattle.std.specs.Prelude.{ℕ, Bool, List, eqb}
+use Rattle.std.specs.Prelude.{ℕ, Bool, List, eqb, if◌then◌else◌}
 use Rattle.std.proofs.Math.Option.{Option, none, some}
-use Rattle.model.specs.Choose.{if◌then◌else◌}
 use Rattle.model.specs.Arm.{bits, CommandField, dw, ◌from◌, Opcode, DeviceID, EventID, Size, pINTID, ICID, ITT_addr, RDbase, «V», op_MOVI, op_INT, op_CLEAR, op_SYNC, op_MAPD, op_MAPC, op_MAPTI, op_MAPI, op_INV, op_INVALL, op_DISCARD}
 
 -- A command with the numbers of its fields. The virtual ones (GICv4) are unknown to a unit whose TYPER.Virtual is 0 (F11, F57).

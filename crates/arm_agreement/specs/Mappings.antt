@@ -1,9 +1,9 @@
 -- Arm's mappings, without tables and sizes: what a command does to them, when a command is an error, when Arm leaves open what happens, and how
 -- a message is translated. By the facts of docs/ARM.md (F01 and on) alone.
 -- Assumes nothing.
-use Rattle.std.specs.Prelude.{ℕ, ◌+◌, ◌^◌, Bool, true, false, ◌&&◌, leb, ltb, eqb}
+use Rattle.std.specs.Prelude.{ℕ, ◌+◌, ◌^◌, Bool, true, false, ◌&&◌, leb, ltb, eqb, if◌then◌else◌}
 use Rattle.std.proofs.Math.Option.{Option, none, some}
-use Rattle.model.specs.Choose.{if◌then◌else◌, when_found, if_found, is_found}
+use Rattle.model.specs.Choose.{when_found, if_found, is_found}
 use Rattle.model.specs.Arm.{◌of◌, TYPER_ID_bits, TYPER_Devbits, LPI_base}
 use Rattle.arm_agreement.specs.Commands.{ArmCommand, MAPD, MAPC, MAPTI, MAPI, MOVI, INT, CLEAR, DISCARD, INV, INVALL, SYNC, MOVALL}
 

@@ -1,9 +1,9 @@
 // The commands on a pair or a collection that is mapped: MOVI, INT, CLEAR, DISCARD, INV and INVALL; and where a message goes.
-ghost use Rattle.std.specs.Prelude.{◌≡◌};
+ghost use Rattle.std.specs.Prelude.{◌≡◌, if◌then◌else◌};
 ghost use Rattle.model.specs.declared.Command.TheVariants.{Movi, Int, Clear, Discard, Inv, Invall};
 ghost use Rattle.model.specs.declared.TranslateAnswer.TheVariants.{Delivered, NotDelivered};
 ghost use Rattle.model.specs.declared.Refusal.TheVariants.{ResourceNotFound};
-ghost use Rattle.model.specs.Choose.{if◌then◌else◌, if_found};
+ghost use Rattle.model.specs.Choose.{if_found};
 ghost use Rattle.model.specs.Step.{delivery_in, executed, execution};
 
 use model::{

@@ -1,10 +1,9 @@
 -- The model's reading of a command, as the code answers it: the words beside whether they were read, as an enum holds no array.
 -- Assumes nothing.
-use Rattle.std.specs.Prelude.{ℕ, true, false, ◌&&◌, List, [], ◌∷◌, get_or, replicate}
+use Rattle.std.specs.Prelude.{ℕ, true, false, ◌&&◌, List, [], ◌∷◌, get_or, replicate, if◌then◌else◌}
 use Rattle.std.proofs.Math.Option.{Option, none, some}
 use Rattle.model.specs.declared.ItsState.{ItsState}
 use Rattle.model.specs.declared.Refusal.TheVariants.{NotInWindow}
-use Rattle.model.specs.Choose.{if◌then◌else◌}
 use Rattle.model.specs.Decode.{opcode_of, decode}
 use Rattle.model.specs.Queue.{Window, command_at, Turn, stays, turn_on}
 use Rattle.decoding.specs.declared.WordRead.{WordRead}

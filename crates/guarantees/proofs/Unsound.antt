@@ -1,6 +1,7 @@
 -- A unit whose configuration or ring is unsound answers 1 to everything and stays as it is; so does the unit that a refused configuration gives, and
 -- the one that stands where none was configured. A sound unit never answers 1.
 -- Assumes nothing.
+use Rattle.std.specs.Prelude.{if◌then◌else◌}
 use Prim.Native.Nat.{ℕ}
 use mathlib.Core.Path.{◌≡◌, refl, sym, ap, subst, ◌∙◌}
 use mathlib.Core.Bool.{Bool, true, false}
@@ -17,7 +18,7 @@ use Rattle.model.specs.declared.Refusal.TheVariants.{Unsound, ResourceNotFound}
 use Rattle.model.specs.declared.Verdict.TheVariants.{Accepted, Refused}
 use Rattle.model.specs.declared.TranslateAnswer.TheVariants.{Delivered, NotDelivered}
 use Rattle.model.specs.declared.Configured.{Configured}
-use Rattle.model.specs.Choose.{if◌then◌else◌, if_found}
+use Rattle.model.specs.Choose.{if_found}
 use Rattle.model.specs.Config.{sizes_in01, sound_config, sound_unit, fresh_unit, answers_no_unit}
 use Rattle.model.specs.Step.{delivery_in}
 use Rattle.model.specs.Queue.{Window}

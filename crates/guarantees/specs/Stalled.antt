@@ -2,7 +2,7 @@
 -- its last run was stopped by a command and neither of the two writes that clear it came since. Nothing here speaks of the unit's own bit but the
 -- theorems.
 -- Assumes nothing.
-use Rattle.std.specs.Prelude.{ℕ, ◌+◌, ◌≡◌, Bool, true, false, ◌&&◌, ◌||◌, not, List, [], ◌∷◌, ◌⊎◌, leb, eqb, get_or}
+use Rattle.std.specs.Prelude.{ℕ, ◌+◌, ◌≡◌, Bool, true, false, ◌&&◌, ◌||◌, not, List, [], ◌∷◌, ◌⊎◌, leb, eqb, get_or, if◌then◌else◌}
 use Rattle.model.specs.declared.ItsConfig.{ItsConfig}
 use Rattle.model.specs.declared.ItsState.{ItsState}
 use Rattle.model.specs.declared.Command.{Command}
@@ -13,7 +13,6 @@ use Rattle.model.specs.declared.ReadAnswer.TheVariants.{Value}
 use Rattle.model.specs.declared.WriteAnswer.{WriteAnswer}
 use Rattle.model.specs.declared.WriteAnswer.TheVariants.{Taken, NotTaken}
 use Rattle.model.specs.declared.Written.{Written}
-use Rattle.model.specs.Choose.{if◌then◌else◌}
 use Rattle.model.specs.Arm.{◌of◌, CWRITER_Retry, GITS_CBASER, GITS_CWRITER, GITS_CREADR}
 use Rattle.model.specs.Profile.{base, strict, profile_of}
 use Rattle.model.specs.Register.{lies_in, one_if}

@@ -1,6 +1,7 @@
 -- What a host gives. The processors: one more, all, and the first sixteen of more. A count above sixteen is refused like any other, and so is a setting
 -- that is not known: the configuration made is accepted exactly if the one given is.
 -- Assumes nothing.
+use Rattle.std.specs.Prelude.{if◌then◌else◌}
 use Prim.Native.Nat.{ℕ, zero, suc, ◌+◌, ◌-◌, ◌≤◌, ◌<◌}
 use native.Mathlib.Numerals.{add-one}
 use native.Mathlib.Omega.{arith}
@@ -13,7 +14,6 @@ use lib.Dec.{leb, ltb, eqb}
 use borrow.Author.Tests.{ltb-false, lt-leb, ne_eqb}
 use Rattle.model.specs.declared.GicVcpuId.{GicVcpuId}
 use Rattle.model.specs.declared.ItsConfig.{ItsConfig}
-use Rattle.model.specs.Choose.{if◌then◌else◌}
 use Rattle.model.specs.Arm.{LPI_base}
 use Rattle.model.specs.declared.Refusal.TheVariants.{Unsound}
 use Rattle.model.specs.declared.Verdict.TheVariants.{Accepted, Refused}

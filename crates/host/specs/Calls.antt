@@ -1,7 +1,7 @@
 -- What the C calls for hosts promise: the predicate that each `ensures` names, over the unit that the lent numbers are (crates/lent_tables), what comes
 -- back, and what is left. Each says that the call does what the model's entry says, and asks nothing of the inputs.
 -- Assumes nothing.
-use Rattle.std.specs.Prelude.{ℕ, ◌≡◌, Bool, true, false, ◌&&◌, List, [], ◌∷◌, ◌++◌, map, length, get_or, take, drop, replicate, eqb}
+use Rattle.std.specs.Prelude.{ℕ, ◌≡◌, Bool, true, false, ◌&&◌, List, [], ◌∷◌, ◌++◌, map, length, get_or, take, drop, replicate, eqb, if◌then◌else◌}
 use Rattle.model.specs.declared.GicVcpuId.{GicVcpuId}
 use Rattle.model.specs.declared.ItsConfig.{ItsConfig}
 use Rattle.model.specs.declared.ItsAction.{ItsAction}
@@ -11,7 +11,6 @@ use Rattle.model.specs.declared.ReadAnswer.{ReadAnswer}
 use Rattle.model.specs.declared.RegisterWrite.{RegisterWrite}
 use Rattle.model.specs.declared.WriteAnswer.{WriteAnswer}
 use Rattle.model.specs.declared.TranslateAnswer.{TranslateAnswer}
-use Rattle.model.specs.Choose.{if◌then◌else◌}
 use Rattle.model.specs.With.{with_registers, a_config}
 use Rattle.model.specs.Config.{no_config}
 use Rattle.model.specs.Refusal.{verdict_number, read_numbers, write_numbers, translate_numbers}

@@ -1,12 +1,12 @@
 -- The lines of what is left of a table from one place on.
 -- Assumes nothing.
+use Rattle.std.specs.Prelude.{if◌then◌else◌}
 use Prim.Native.Nat.{ℕ, suc, ◌+◌, ◌-◌, ◌≤◌, ◌<◌}
 use native.Mathlib.Omega.{arith}
 use native.Mathlib.Numerals.{add-one}
 use mathlib.Core.Path.{◌≡◌, ap, sym, ◌∙◌}
 use mathlib.Core.Bool.{Bool}
 use mathlib.Core.List.{List, [], ◌∷◌, ◌++◌, map}
-use Rattle.model.specs.Choose.{if◌then◌else◌}
 use Rattle.model.proofs.Cases.{cases}
 use lib.ListN.{length}
 use Rattle.model.specs.declared.ItsState.{ItsState}

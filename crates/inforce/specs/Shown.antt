@@ -1,10 +1,9 @@
 -- What the program prints: the mappings in force at the end of a trace, or after each of its records.
 -- Assumes nothing.
-use Rattle.std.specs.Prelude.{ℕ, zero, suc, ◌+◌, List, [], ◌∷◌, ◌++◌, map, leb, eqb, length, drop, get_or}
+use Rattle.std.specs.Prelude.{ℕ, zero, suc, ◌+◌, List, [], ◌∷◌, ◌++◌, map, leb, eqb, length, drop, get_or, if◌then◌else◌}
 use Rattle.model.specs.declared.ItsDevice.{ItsDevice}
 use Rattle.model.specs.declared.ItsConfig.{ItsConfig}
 use Rattle.model.specs.declared.ItsState.{ItsState}
-use Rattle.model.specs.Choose.{if◌then◌else◌}
 use Rattle.model.specs.Text.{ascii}
 use Rattle.model.specs.Config.{sound_config}
 use Rattle.model.specs.Trace.{Record, Parsed, whole, broken, parse, line, Running, at_start, next, lines_of, fitting}

@@ -1,6 +1,5 @@
 // The lines of a unit: its profile, its mappings in force, then its mapped devices.
-ghost use Rattle.std.specs.Prelude.{◌≡◌, [], ◌∷◌, map};
-ghost use Rattle.model.specs.Choose.{if◌then◌else◌};
+ghost use Rattle.std.specs.Prelude.{◌≡◌, [], ◌∷◌, map, if◌then◌else◌};
 ghost use Rattle.mappings.specs.Mappings.{mappings_of, devices_of};
 ghost use Rattle.text.specs.Laying.{line_of, output, lay_all};
 ghost use Rattle.inforce.specs.Shown.{profile_line, profile_lines, mapping_line, device_line, unit_lines};

@@ -1,10 +1,9 @@
 -- A write up to its run: the unit with the registers that it leaves, and a run that begins there, or none. No sentence of document 01 stands here: the
 -- registers are the model's `register_write`, and proofs/Writes.antt shows that such a beginning ends as the model's write does.
 -- Assumes nothing.
-use Rattle.std.specs.Prelude.{ℕ}
+use Rattle.std.specs.Prelude.{ℕ, if◌then◌else◌}
 use Rattle.model.specs.declared.ItsState.{ItsState}
 use Rattle.model.specs.declared.RegisterWrite.{RegisterWrite}
-use Rattle.model.specs.Choose.{if◌then◌else◌}
 use Rattle.model.specs.With.{with_registers}
 use Rattle.model.specs.Writing.{register_write}
 use Rattle.queue.specs.declared.Progress.{Progress}

@@ -1,7 +1,7 @@
 -- What the public entries promise: the predicate that each `ensures` names, over the inputs and what comes back. Each says that the answer is that of
 -- the model's entry, and so that its numbers are the paper's; it asks nothing of the inputs.
 -- Assumes nothing.
-use Rattle.std.specs.Prelude.{ℕ, ◌≡◌, List, ◌++◌, take, drop, ltb}
+use Rattle.std.specs.Prelude.{ℕ, ◌≡◌, List, ◌++◌, take, drop, ltb, if◌then◌else◌}
 use Rattle.model.specs.declared.ItsDeviceId.{ItsDeviceId}
 use Rattle.model.specs.declared.EventId.{EventId}
 use Rattle.model.specs.declared.ItsConfig.{ItsConfig}
@@ -11,7 +11,6 @@ use Rattle.model.specs.declared.ReadAnswer.{ReadAnswer}
 use Rattle.model.specs.declared.TranslateAnswer.{TranslateAnswer}
 use Rattle.model.specs.declared.Configured.{Configured}
 use Rattle.model.specs.declared.Written.{Written}
-use Rattle.model.specs.Choose.{if◌then◌else◌}
 use Rattle.model.specs.Refusal.{verdict_number, read_numbers, write_numbers, translate_numbers}
 use Rattle.model.specs.Config.{answers_no_unit}
 use Rattle.model.specs.Queue.{Window}

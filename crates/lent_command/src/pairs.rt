@@ -1,9 +1,9 @@
 // The commands on a pair or a collection that is mapped, and where a message goes, on a unit that is lent as numbers.
-ghost use Rattle.std.specs.Prelude.{◌≡◌, true};
+ghost use Rattle.std.specs.Prelude.{◌≡◌, true, if◌then◌else◌};
 ghost use Rattle.model.specs.declared.Command.TheVariants.{Movi, Int, Clear, Discard, Inv, Invall};
 ghost use Rattle.model.specs.declared.TranslateAnswer.TheVariants.{Delivered, NotDelivered};
 ghost use Rattle.model.specs.declared.Refusal.TheVariants.{ResourceNotFound};
-ghost use Rattle.model.specs.Choose.{if◌then◌else◌, if_found};
+ghost use Rattle.model.specs.Choose.{if_found};
 ghost use Rattle.model.specs.Step.{delivery_in, executed};
 ghost use Rattle.lent_tables.specs.Numbers.{unit_in, Carries};
 

@@ -1,5 +1,6 @@
 -- A drop in a table of a unit that is lent as numbers: what is known before each turn, from the first record up and from the last one down.
 -- Assumes nothing.
+use Rattle.std.specs.Prelude.{if◌then◌else◌}
 use Prim.Native.Nat.{ℕ, zero, suc, ◌+◌, ◌≤◌, ◌<◌}
 use native.Mathlib.Omega.{arith}
 use mathlib.Core.Path.{◌≡◌, refl, sym, ap, ◌∙◌}
@@ -13,7 +14,7 @@ use Rattle.model.specs.declared.ItsDevice.{ItsDevice}
 use Rattle.model.specs.declared.ItsCollection.{ItsCollection}
 use Rattle.model.specs.declared.Translation.{Translation}
 use Rattle.model.specs.declared.ItsState.{ItsState}
-use Rattle.model.specs.Choose.{if◌then◌else◌, if_found}
+use Rattle.model.specs.Choose.{if_found}
 use Rattle.model.specs.Table.{look, drop_all}
 use Rattle.model.specs.Keys.{same_collection, is_pair, no_device, no_collection, no_translation}
 use Rattle.model.specs.With.{with_devices, with_collections, with_translations}

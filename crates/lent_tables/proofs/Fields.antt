@@ -1,5 +1,6 @@
 -- The fields of a word, taken out and put together.
 -- Assumes nothing.
+use Rattle.std.specs.Prelude.{if◌then◌else◌}
 use Prim.Native.Nat.{ℕ, ◌+◌, ◌*◌, ◌/◌, ◌%◌, ◌^◌, ◌≤◌, ◌<◌}
 use native.Mathlib.Omega.{arith}
 use mathlib.Core.Path.{◌≡◌, refl}
@@ -13,7 +14,6 @@ use Rattle.model.specs.declared.EventId.{EventId}
 use Rattle.model.specs.declared.ItsDevice.{ItsDevice}
 use Rattle.model.specs.declared.ItsCollection.{ItsCollection}
 use Rattle.model.specs.declared.Translation.{Translation}
-use Rattle.model.specs.Choose.{if◌then◌else◌}
 use Rattle.model.specs.Keys.{no_device, no_collection, no_translation}
 use Rattle.model.proofs.Cases.{cases}
 use Rattle.lent_tables.specs.Numbers.{is_used, processor_in, processor_at, rows, device_in, collection_in, translation_in}

@@ -1,7 +1,7 @@
 -- A unit as numbers, and which unit each row of so many numbers is. Every row is one: nothing is asked of the numbers. Where each part stands among
 -- them is said here once: the code has the same names for the places (src/lib.rt), and no proof names a place by its number.
 -- Assumes nothing.
-use Rattle.std.specs.Prelude.{ℕ, zero, suc, ◌+◌, ◌*◌, ◌/◌, ◌%◌, ◌^◌, ◌≡◌, Bool, List, [], ◌∷◌, get_or, leb, eqb}
+use Rattle.std.specs.Prelude.{ℕ, zero, suc, ◌+◌, ◌*◌, ◌/◌, ◌%◌, ◌^◌, ◌≡◌, Bool, List, [], ◌∷◌, get_or, leb, eqb, if◌then◌else◌}
 use Rattle.model.specs.declared.GicVcpuId.{GicVcpuId}
 use Rattle.model.specs.declared.ItsDevice.{ItsDevice}
 use Rattle.model.specs.declared.ItsCollection.{ItsCollection}
@@ -11,7 +11,6 @@ use Rattle.model.specs.declared.ItsRegisters.{ItsRegisters}
 use Rattle.model.specs.declared.ItsState.{ItsState}
 use Rattle.model.specs.declared.Command.{Command}
 use Rattle.model.specs.declared.Executed.{Executed}
-use Rattle.model.specs.Choose.{if◌then◌else◌}
 use Rattle.model.specs.With.{a_unit, the_registers, a_config}
 use Rattle.model.specs.Config.{no_config}
 use Rattle.model.specs.Step.{stepped, executed}

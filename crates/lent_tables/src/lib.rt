@@ -4,8 +4,7 @@
 
 pub mod records;
 
-ghost use Rattle.std.specs.Prelude.{◌≡◌, true, [], ◌∷◌, ◌*◌, ◌+◌, ◌%◌, ◌^◌, ◌<◌, length, set};
-ghost use Rattle.model.specs.Choose.{if◌then◌else◌};
+ghost use Rattle.std.specs.Prelude.{◌≡◌, true, [], ◌∷◌, ◌*◌, ◌+◌, ◌%◌, ◌^◌, ◌<◌, length, set, if◌then◌else◌};
 ghost use Rattle.model.specs.With.{with_config, with_registers, with_devices, with_collections, with_translations, with_processors};
 ghost use Rattle.model.specs.Config.{no_config};
 ghost use Rattle.model.specs.Register.{one_if};

@@ -1,6 +1,6 @@
 -- What the lists of Mappings.antt are to a history: exactly its mappings in force and its mapped devices, each once.
 -- Assumes nothing.
-use Rattle.std.specs.Prelude.{ℕ, suc, ◌≤◌, ◌≡◌, Bool, true, List, [], ◌∷◌, ◌⊎◌, ◌↔◌}
+use Rattle.std.specs.Prelude.{ℕ, suc, ◌≤◌, ◌≡◌, Bool, true, List, [], ◌∷◌, ◌⊎◌, ◌↔◌, if◌then◌else◌}
 use Rattle.model.specs.declared.ItsDeviceId.{ItsDeviceId}
 use Rattle.model.specs.declared.EventId.{EventId}
 use Rattle.model.specs.declared.CollectionId.{CollectionId}
@@ -9,7 +9,6 @@ use Rattle.model.specs.declared.GicVcpuId.{GicVcpuId}
 use Rattle.model.specs.declared.ItsDevice.{ItsDevice}
 use Rattle.model.specs.declared.ItsState.{ItsState}
 use Rattle.model.specs.declared.Command.{Command}
-use Rattle.model.specs.Choose.{if◌then◌else◌}
 use Rattle.model.specs.Profile.{profile_of}
 use Rattle.model.specs.Keys.{same_device, same_pair, a_device}
 use Rattle.model.specs.Paragraph.{DeviceMapped, ProcessorOf, InForce}

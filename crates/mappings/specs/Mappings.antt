@@ -1,6 +1,6 @@
 -- The mappings in force as a unit holds them, in the order of its tables. proofs/InForce.antt shows that they are those of the history.
 -- Assumes nothing.
-use Rattle.std.specs.Prelude.{ℕ, zero, suc, Bool, true, false, ◌&&◌, List, [], ◌∷◌, eqb, ltb, length, get_or}
+use Rattle.std.specs.Prelude.{ℕ, zero, suc, Bool, true, false, ◌&&◌, List, [], ◌∷◌, eqb, ltb, length, get_or, if◌then◌else◌}
 use Rattle.model.specs.declared.ItsDeviceId.{ItsDeviceId}
 use Rattle.model.specs.declared.EventId.{EventId}
 use Rattle.model.specs.declared.CollectionId.{CollectionId}
@@ -9,7 +9,7 @@ use Rattle.model.specs.declared.GicVcpuId.{GicVcpuId}
 use Rattle.model.specs.declared.ItsDevice.{ItsDevice}
 use Rattle.model.specs.declared.Translation.{Translation}
 use Rattle.model.specs.declared.ItsState.{ItsState}
-use Rattle.model.specs.Choose.{if◌then◌else◌, if_found}
+use Rattle.model.specs.Choose.{if_found}
 use Rattle.model.specs.Table.{first_at}
 use Rattle.model.specs.Keys.{is_device, is_pair, no_device, no_translation}
 use Rattle.model.specs.Step.{collection_of}

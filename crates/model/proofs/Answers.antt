@@ -1,6 +1,7 @@
 -- What the answer of a write says of the run of its queue, what a command that stopped it leaves, and what becomes of the queue: it is run whole, or nothing
 -- is run.
 -- Assumes nothing.
+use Rattle.std.specs.Prelude.{if◌then◌else◌}
 use Prim.Native.Nat.{ℕ}
 use mathlib.Core.Path.{◌≡◌, refl, sym, ap, ap₂}
 use mathlib.Core.Bool.{Bool, true, false}
@@ -15,7 +16,7 @@ use Rattle.model.specs.declared.Refusal.{Refusal}
 use Rattle.model.specs.declared.Refusal.TheVariants.{BudgetExceeded}
 use Rattle.model.specs.declared.WriteAnswer.{WriteAnswer}
 use Rattle.model.specs.declared.WriteAnswer.TheVariants.{Taken, NotTaken}
-use Rattle.model.specs.Choose.{if◌then◌else◌, ◌or◌then◌, if_found}
+use Rattle.model.specs.Choose.{◌or◌then◌, if_found}
 use Rattle.model.specs.Refusal.{write_numbers}
 use Rattle.model.specs.Queue.{Window, waiting, Stop, Ran, ended, run, stall, halting, may_run, run_queue}
 use Rattle.model.specs.With.{unit_stalled}

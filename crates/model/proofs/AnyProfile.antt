@@ -1,5 +1,6 @@
 -- 01'S UNIT (specs/In01.antt) KNOWS NO PROFILE AND NO STALLED: whatever stands there, it answers the same and leaves the same.
 -- Assumes nothing.
+use Rattle.std.specs.Prelude.{if◌then◌else◌}
 use Prim.Native.Nat.{ℕ, zero, suc}
 use mathlib.Core.Path.{◌≡◌, refl, ap, ap₂, ◌∙◌}
 use mathlib.Core.Bool.{Bool, true, false, not}
@@ -25,7 +26,7 @@ use Rattle.model.specs.declared.Decoded.TheVariants.{Known, Unknown}
 use Rattle.model.specs.declared.Refusal.TheVariants.{Unsound, RowTooShort, NotInWindow}
 use Rattle.model.specs.declared.Verdict.{Verdict}
 use Rattle.model.specs.declared.Verdict.TheVariants.{Accepted, Refused}
-use Rattle.model.specs.Choose.{if◌then◌else◌, ◌or◌then◌, if_found}
+use Rattle.model.specs.Choose.{◌or◌then◌, if_found}
 use Rattle.model.specs.With.{with_registers, with_stalled, with_profile}
 use Rattle.model.specs.Config.{queue_base, listed, sizes_in01, sound_ring}
 use Rattle.model.specs.Decode.{opcode_of, decode}

@@ -1,6 +1,7 @@
 -- Each pair in force is backed: its LPI is in range, its device and its collection are mapped, and every mapped collection's processor is listed. In
 -- strict its event lies below its device's capacity too, and no device above 65535 is mapped. Each accepted command keeps that.
 -- Assumes nothing.
+use Rattle.std.specs.Prelude.{if◌then◌else◌}
 use Prim.Native.Nat.{ℕ}
 use mathlib.Core.Path.{◌≡◌, refl, sym, subst, ◌∙◌}
 use mathlib.Core.Bool.{Bool, true, false, ◌&&◌, not}
@@ -19,7 +20,7 @@ use Rattle.model.specs.declared.Command.{Command}
 use Rattle.model.specs.declared.Command.TheVariants.{Mapd, Mapc, Mapti, Mapi, Movi, Int, Clear, Discard, Inv, Invall, Sync}
 use Rattle.model.specs.declared.Refusal.TheVariants.{CollectionUnmapped, ProcessorUnlisted, DeviceTooLarge}
 use Rattle.model.specs.declared.Verdict.TheVariants.{Refused}
-use Rattle.model.specs.Choose.{if◌then◌else◌, when_found, if_found, is_found}
+use Rattle.model.specs.Choose.{when_found, if_found, is_found}
 use Rattle.model.specs.Keys.{same_device, same_collection, same_pair, event_as_lpi}
 use Rattle.model.specs.Profile.{Profile, base, strict, is_strict, profile_of, mapd_ends}
 use Rattle.model.specs.Config.{listed}
@@ -147,8 +148,8 @@ module _ (u : ItsState) (h : List Command) (agrees : Agrees h u) (sound : Sound 
         range = rw k b.range;
         device = b.device;
         collection =
-              subst (λ z. is_found (collection_now z.collection (Movi d' e' c ∷ h)) ≡ true) (sym k)
-              (collection_now_lem c (passed (collection_mapped u c) (Refused CollectionUnmapped) _ refl (own u (Movi d' e' c) ok)).0);
+            subst (λ z. is_found (collection_now z.collection (Movi d' e' c ∷ h)) ≡ true) (sym k)
+            (collection_now_lem c (passed (collection_mapped u c) (Refused CollectionUnmapped) _ refl (own u (Movi d' e' c) ok)).0);
       })
       (λ s. sound.behind d e y (rw s at q))
   behind_step (Int d' e') ok d e y q = sound.behind d e y q

@@ -1,6 +1,7 @@
 -- What each command comes to and what it leaves, from what the searches of a unit found: a check that fails refuses, and where all hold the
 -- effect is what was stored or dropped. The unit is any whose tables have their sizes; both texts of the unit cite these laws.
 -- Assumes nothing.
+use Rattle.std.specs.Prelude.{if◌then◌else◌}
 use Prim.Native.Nat.{ℕ, ◌≤◌, ◌<◌}
 use native.Mathlib.Omega.{arith}
 use mathlib.Core.Path.{◌≡◌, refl, sym, ap, ap₂, ◌∙◌}
@@ -27,7 +28,7 @@ use Rattle.model.specs.declared.Executed.{Executed}
 use Rattle.model.specs.declared.Executed.TheVariants.{NotDone, Done, Acted}
 use Rattle.model.specs.declared.Verdict.TheVariants.{Accepted, Refused}
 use Rattle.model.specs.declared.TranslateAnswer.TheVariants.{Delivered, NotDelivered}
-use Rattle.model.specs.Choose.{if◌then◌else◌, ◌or◌then◌, if_found}
+use Rattle.model.specs.Choose.{◌or◌then◌, if_found}
 use Rattle.model.specs.Table.{first_at, look, place, room, store, drop_all}
 use Rattle.model.specs.Keys.{is_device, is_collection, is_pair, of_device, a_device, a_collection, a_translation, no_device, no_collection, no_translation, delivery, event_as_lpi}
 use Rattle.model.specs.With.{with_devices, with_collections, with_translations}

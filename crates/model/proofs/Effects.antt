@@ -1,6 +1,7 @@
 -- What an accepted command does to what the unit says of a device, of a collection and of a pair: exactly what History.antt says that it does in the
 -- unit's profile. By the laws of a table; no history is spoken of here.
 -- Assumes nothing.
+use Rattle.std.specs.Prelude.{if◌then◌else◌}
 use Prim.Native.Nat.{ℕ}
 use mathlib.Core.Path.{◌≡◌, refl, sym, ap, ap₂, ◌∙◌}
 use mathlib.Core.Bool.{Bool, true, false, not, ◌&&◌}
@@ -18,7 +19,7 @@ use Rattle.model.specs.declared.Command.TheVariants.{Mapd, Mapc, Mapti, Mapi, Mo
 use Rattle.model.specs.declared.Refusal.TheVariants.{LpiOutOfRange, DeviceUnmapped, EventBeyondBits, CollectionUnmapped, PairUnmapped, ProcessorUnlisted, DeviceTooLarge, TableFull}
 use Rattle.model.specs.declared.Verdict.{Verdict}
 use Rattle.model.specs.declared.Verdict.TheVariants.{Accepted, Refused}
-use Rattle.model.specs.Choose.{if◌then◌else◌, ◌or◌then◌, when_found, if_found}
+use Rattle.model.specs.Choose.{◌or◌then◌, when_found, if_found}
 use Rattle.model.specs.Keys.{same_device, same_collection, same_pair, is_device, is_collection, is_pair, of_device, a_device, a_collection, a_translation, no_device, no_collection, no_translation, event_as_lpi}
 use Rattle.model.specs.Profile.{is_strict, profile_of}
 use Rattle.model.specs.Config.{listed}

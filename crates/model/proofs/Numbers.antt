@@ -1,5 +1,6 @@
 -- Document 02, A1 and A3: a number names one refusal, and folded it is 01's.
 -- Assumes nothing.
+use Rattle.std.specs.Prelude.{if◌then◌else◌}
 use Prim.Native.Nat.{ℕ, ◌≤◌}
 use borrow.Author.Tests.{leb-true}
 use mathlib.Core.Path.{◌≡◌, refl}
@@ -11,7 +12,7 @@ use lib.Dec.{leb, eqb}
 use Rattle.model.specs.declared.Refusal.{Refusal}
 use Rattle.model.specs.declared.Refusal.TheVariants.{Unsound, RowTooShort, InvalidAccess, Identification, BaseZero, WriterRefused, BudgetExceeded, NotInWindow}
 use Rattle.model.specs.declared.Refusal.TheVariants.{OpcodeUnknown, LpiOutOfRange, DeviceUnmapped, EventBeyondBits, CollectionUnmapped, PairUnmapped, ProcessorUnlisted, DeviceTooLarge, ResourceNotFound, TableFull, LineDoesNotFit}
-use Rattle.model.specs.Choose.{if◌then◌else◌, is_found}
+use Rattle.model.specs.Choose.{is_found}
 use Rattle.model.specs.Refusal.{number_of, reasons, number_in01, folded}
 use Rattle.model.proofs.Cases.{cases, never, and_left, and_right}
 

@@ -1,5 +1,6 @@
 -- What the profile says of a configuration; and a base unit is document 01's (specs/In01.antt).
 -- Assumes nothing.
+use Rattle.std.specs.Prelude.{if◌then◌else◌}
 use Prim.Native.Nat.{ℕ, zero, suc, ◌+◌, ◌^◌, ◌≤◌, ◌<◌}
 use native.Mathlib.Omega.{arith}
 use mathlib.Core.Path.{◌≡◌, refl, sym, ap, ◌∙◌}
@@ -23,7 +24,7 @@ use Rattle.model.specs.declared.Decoded.{Decoded}
 use Rattle.model.specs.declared.Decoded.TheVariants.{Known, Unknown}
 use Rattle.model.specs.declared.Refusal.TheVariants.{NotInWindow, DeviceTooLarge}
 use Rattle.model.specs.declared.Verdict.TheVariants.{Refused}
-use Rattle.model.specs.Choose.{if◌then◌else◌, ◌or◌then◌, if_found, when_found}
+use Rattle.model.specs.Choose.{◌or◌then◌, if_found, when_found}
 use Rattle.model.specs.Arm.{◌of◌, TYPER_Devbits, CBASER_Valid}
 use Rattle.model.specs.With.{with_registers, with_stalled, with_reader}
 use Rattle.model.specs.Profile.{base, strict, is_profile, is_strict, profile_of}

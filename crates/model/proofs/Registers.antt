@@ -1,6 +1,7 @@
 -- What a unit of each profile stores, beside what document 01's unit stores (specs/In01.antt). In strict it is that of the value without bit 0 at CWRITER, but
 -- for Stalled (02, A4); and in base it makes no difference what stands in Stalled.
 -- Assumes nothing.
+use Rattle.std.specs.Prelude.{if◌then◌else◌}
 use Prim.Native.Nat.{ℕ, ◌+◌, ◌-◌, ◌*◌, ◌/◌, ◌%◌, ◌^◌, ◌<◌}
 use native.Mathlib.Omega.{arith}
 use mathlib.Core.Path.{◌≡◌, refl, sym, ap, ◌∙◌}
@@ -22,7 +23,7 @@ use Rattle.model.specs.declared.Refusal.TheVariants.{Unsound, BaseZero, WriterRe
 use Rattle.model.specs.declared.ReadAnswer.TheVariants.{Value, NoValue}
 use Rattle.model.specs.declared.Verdict.{Verdict}
 use Rattle.model.specs.declared.Verdict.TheVariants.{Accepted, Refused}
-use Rattle.model.specs.Choose.{if◌then◌else◌, ◌or◌then◌}
+use Rattle.model.specs.Choose.{◌or◌then◌}
 use Rattle.model.specs.Arm.{◌of◌, ◌in_place◌, ◌holding◌, without, low_half, high_half, CBASER_Valid, CWRITER_Retry, GITS_CTLR, GITS_IIDR, GITS_TYPER, GITS_CBASER, GITS_CWRITER, GITS_CREADR}
 use Rattle.model.specs.With.{with_writer, unit_stalled}
 use Rattle.model.specs.Profile.{is_profile, is_strict}

@@ -1,6 +1,7 @@
 -- The law of the run, for both texts of the unit: a run goes one command at a time, and between two commands what was done and what is left to do
 -- give the same end as the whole.
 -- Assumes nothing.
+use Rattle.std.specs.Prelude.{if◌then◌else◌}
 use Prim.Native.Nat.{ℕ, zero, suc, ◌+◌, ◌-◌, ◌≤◌, ◌<◌}
 use native.Mathlib.Omega.{arith}
 use native.Mathlib.Nat.{zero-add, add-zero}
@@ -18,7 +19,7 @@ use Rattle.model.specs.declared.Refusal.{Refusal}
 use Rattle.model.specs.declared.Executed.TheVariants.{NotDone, Done, Acted}
 use Rattle.model.specs.declared.Verdict.{Verdict}
 use Rattle.model.specs.declared.Verdict.TheVariants.{Accepted, Refused}
-use Rattle.model.specs.Choose.{if◌then◌else◌, when_found, list_of}
+use Rattle.model.specs.Choose.{when_found, list_of}
 use Rattle.model.specs.Step.{delivery_in, check, accepts, effect, action_to, actions_on, actions_of, is_accepted, stepped, executed_by, executed}
 use Rattle.model.specs.Queue.{Window, Stands, past_command, Turn, passes, stays, judged, turn, carry_out, Stop, Ran, ended, go_on, run}
 use Rattle.model.specs.With.{with_registers}

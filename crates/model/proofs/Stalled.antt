@@ -1,6 +1,7 @@
 -- What a write does to Stalled (02, A4). What it stores leaves the bit, but for the two that clear it in strict; a run that a command stopped sets it there;
 -- and base never writes it.
 -- Assumes nothing.
+use Rattle.std.specs.Prelude.{if◌then◌else◌}
 use Prim.Native.Nat.{ℕ, ◌+◌}
 use native.Mathlib.Omega.{arith}
 use mathlib.Core.Path.{◌≡◌, refl, sym, ap, ap₂, ◌∙◌}
@@ -23,7 +24,7 @@ use Rattle.model.specs.declared.WriteAnswer.{WriteAnswer}
 use Rattle.model.specs.declared.WriteAnswer.TheVariants.{Taken, NotTaken}
 use Rattle.model.specs.declared.Verdict.{Verdict}
 use Rattle.model.specs.declared.Verdict.TheVariants.{Accepted, Refused}
-use Rattle.model.specs.Choose.{if◌then◌else◌, ◌or◌then◌, if_found}
+use Rattle.model.specs.Choose.{◌or◌then◌, if_found}
 use Rattle.model.specs.Arm.{◌of◌, CWRITER_Retry, GITS_CTLR, GITS_IIDR, GITS_TYPER, GITS_CBASER, GITS_CWRITER, GITS_CREADR}
 use Rattle.model.specs.With.{with_writer, with_registers}
 use Rattle.model.specs.Profile.{is_strict}

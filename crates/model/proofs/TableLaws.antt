@@ -1,5 +1,6 @@
 -- The laws of finding, storing and dropping, each proved once, for a table of any size, any record and any test of a key.
 -- Assumes nothing.
+use Rattle.std.specs.Prelude.{if◌then◌else◌}
 use Prim.Native.Nat.{ℕ, zero, suc, ◌≤◌, ◌<◌}
 use native.Mathlib.Omega.{arith}
 use mathlib.Core.Path.{◌≡◌, refl, sym, ap, ◌∙◌, fun_ext}
@@ -9,7 +10,7 @@ use mathlib.Core.Option.{Option, none, some}
 use lib.ListN.{length, get_or, set, length-set}
 use lib.Dec.{ltb, leb-suc-suc}
 use borrow.Author.Tests.{ltb-true, ltb-false, lt-ltb, le-ltb, not-true}
-use Rattle.model.specs.Choose.{if◌then◌else◌, is_found}
+use Rattle.model.specs.Choose.{is_found}
 use Rattle.model.specs.Table.{first_at, look, place, room, store, drop_all}
 use Rattle.model.proofs.Cases.{cases, never}
 

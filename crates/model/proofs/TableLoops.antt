@@ -1,6 +1,7 @@
 -- The laws of two loops over a table, each loop looking at one record a turn: a search for a record that passes a test, and a drop. Proved once, for a
 -- table of any size, any record and any test, so that the proof of a function with such a loop only cites them.
 -- Assumes nothing.
+use Rattle.std.specs.Prelude.{if◌then◌else◌}
 use Prim.Native.Nat.{ℕ, zero, suc, ◌+◌, ◌≤◌, ◌<◌}
 use native.Mathlib.Omega.{arith}
 use native.Mathlib.Numerals.{add-one}
@@ -8,7 +9,6 @@ use mathlib.Core.Path.{◌≡◌, refl, sym, ap, ◌∙◌}
 use mathlib.Core.Bool.{Bool, true, false, not}
 use mathlib.Core.List.{List, [], ◌∷◌, map}
 use lib.ListN.{length, get_or, set, length-map, get_or-eq_default}
-use Rattle.model.specs.Choose.{if◌then◌else◌}
 use Rattle.model.specs.Table.{first_at, place, drop_all}
 use Rattle.model.proofs.Cases.{cases}
 use Rattle.model.proofs.TableLaws.{first_at_le, place_same, place_free}

@@ -2,6 +2,7 @@
 -- over its budget, or runs what waits. Every write goes one of them; and on a sound unit each does what a run of some number of the waiting
 -- commands does, or of none.
 -- Assumes nothing.
+use Rattle.std.specs.Prelude.{if◌then◌else◌}
 use Prim.Native.Nat.{ℕ, ◌≤◌, ◌<◌}
 use native.Mathlib.Omega.{arith}
 use mathlib.Core.Path.{◌≡◌, refl, sym, ap, ◌∙◌, subst}
@@ -22,7 +23,7 @@ use Rattle.model.specs.declared.Verdict.{Verdict}
 use Rattle.model.specs.declared.Verdict.TheVariants.{Accepted, Refused}
 use Rattle.model.specs.declared.WriteAnswer.TheVariants.{NotTaken}
 use Rattle.model.specs.Profile.{is_strict}
-use Rattle.model.specs.Choose.{if◌then◌else◌, ◌or◌then◌}
+use Rattle.model.specs.Choose.{◌or◌then◌}
 use Rattle.model.specs.Refusal.{write_numbers}
 use Rattle.model.specs.With.{with_registers, with_enabled, with_writer, unit_stalled}
 use Rattle.model.specs.Config.{queue_base, sound_config, sound_ring, sound_unit}

@@ -3,13 +3,7 @@
 use Rattle.std.specs.Prelude.{Bool, true, false, List, [], ◌∷◌}
 use Rattle.std.proofs.Math.Option.{Option, none, some}
 
-infixr 3 if◌then◌else◌
 infixr 2 ◌or◌then◌
--- `if b then x else y`
-abbrev pub if◌then◌else◌ : {A : Type 0} → Bool → A → A → A
-if true then x else y = x
-if false then x else y = y
-
 -- `b or r then k`: where the check b fails the answer is r, and nothing that follows counts; else what follows decides
 abbrev pub ◌or◌then◌ : {A : Type 0} → Bool → A → A → A
 true or r then k = k

@@ -1,11 +1,11 @@
 -- Document 01, "Sizes", and what "Refusal numbers" says of 1: which configurations are accepted, which rings are sound, and a fresh unit.
 -- Assumes nothing.
-use Rattle.std.specs.Prelude.{ℕ, ◌+◌, ◌*◌, ◌%◌, Bool, true, false, ◌&&◌, ◌||◌, not, List, [], ◌∷◌, take, replicate, leb, ltb, eqb}
+use Rattle.std.specs.Prelude.{ℕ, ◌+◌, ◌*◌, ◌%◌, Bool, true, false, ◌&&◌, ◌||◌, not, List, [], ◌∷◌, take, replicate, leb, ltb, eqb, if◌then◌else◌}
 use Rattle.model.specs.declared.GicVcpuId.{GicVcpuId}
 use Rattle.model.specs.declared.ItsConfig.{ItsConfig}
 use Rattle.model.specs.declared.ItsRegisters.{ItsRegisters}
 use Rattle.model.specs.declared.ItsState.{ItsState}
-use Rattle.model.specs.Choose.{if◌then◌else◌, is_found}
+use Rattle.model.specs.Choose.{is_found}
 use Rattle.model.specs.Arm.{◌of◌, ◌in_place◌, ◌holding◌, CBASER_Physical_Address, CBASER_Size, BASER_Type, BASER_Entry_Size, of_devices, of_collections, page, command_size, LPI_base}
 use Rattle.model.specs.With.{a_unit, the_registers, a_config}
 use Rattle.model.specs.Profile.{is_profile}

@@ -1,6 +1,6 @@
 -- Document 01, "Commands": from four words to one of the kinds, or unknown. Each number is the field of Arm's command of that name.
 -- Assumes nothing.
-use Rattle.std.specs.Prelude.{ℕ, ◌+◌, Bool, List, eqb}
+use Rattle.std.specs.Prelude.{ℕ, ◌+◌, Bool, List, eqb, if◌then◌else◌}
 use Rattle.model.specs.declared.ItsDeviceId.{ItsDeviceId}
 use Rattle.model.specs.declared.EventId.{EventId}
 use Rattle.model.specs.declared.CollectionId.{CollectionId}
@@ -9,7 +9,6 @@ use Rattle.model.specs.declared.GicVcpuId.{GicVcpuId}
 use Rattle.model.specs.declared.Command.TheVariants.{Mapd, Mapc, Mapti, Mapi, Movi, Int, Clear, Discard, Inv, Invall, Sync}
 use Rattle.model.specs.declared.Decoded.{Decoded}
 use Rattle.model.specs.declared.Decoded.TheVariants.{Known, Unknown}
-use Rattle.model.specs.Choose.{if◌then◌else◌}
 use Rattle.model.specs.Arm.{bits, CommandField, dw, ◌from◌, Opcode, DeviceID, EventID, Size, pINTID, ICID, «V», op_MOVI, op_INT, op_CLEAR, op_SYNC, op_MAPD, op_MAPC, op_MAPTI, op_MAPI, op_INV, op_INVALL, op_DISCARD}
 
 -- opcode w0 7:0

@@ -1,6 +1,6 @@
 -- Document 01, "Refusal numbers" and "Registers": the public entries: what each answers, and what it leaves in the unit and in the row.
 -- Assumes nothing.
-use Rattle.std.specs.Prelude.{ℕ, List, ◌++◌, length, drop}
+use Rattle.std.specs.Prelude.{ℕ, List, ◌++◌, length, drop, if◌then◌else◌}
 use Rattle.model.specs.declared.ItsDeviceId.{ItsDeviceId}
 use Rattle.model.specs.declared.EventId.{EventId}
 use Rattle.model.specs.declared.ItsConfig.{ItsConfig}
@@ -18,7 +18,7 @@ use Rattle.model.specs.declared.TranslateAnswer.{TranslateAnswer}
 use Rattle.model.specs.declared.TranslateAnswer.TheVariants.{Delivered, NotDelivered}
 use Rattle.model.specs.declared.Configured.{Configured}
 use Rattle.model.specs.declared.Written.{Written}
-use Rattle.model.specs.Choose.{if◌then◌else◌, ◌or◌then◌, if_found}
+use Rattle.model.specs.Choose.{◌or◌then◌, if_found}
 use Rattle.model.specs.Refusal.{verdict_number, ReadNumbers, read_numbers, WriteNumbers, write_numbers, TranslateNumbers, translate_numbers}
 use Rattle.model.specs.With.{with_registers}
 use Rattle.model.specs.Config.{sound_config, sound_unit, fresh_unit, answers_no_unit}

@@ -1,7 +1,7 @@
 -- Document 01, "In force", and document 02, A3, command by command, over the commands carried out, without tables. A history lists the commands carried out, the
 -- last one first: `x ∷ h` is h, and then x. Paragraph.antt says the same in the paragraph's own words.
 -- Assumes nothing.
-use Rattle.std.specs.Prelude.{ℕ, true, false, ◌&&◌, List, [], ◌∷◌}
+use Rattle.std.specs.Prelude.{ℕ, true, false, ◌&&◌, List, [], ◌∷◌, if◌then◌else◌}
 use Rattle.std.proofs.Math.Option.{Option, none, some}
 use Rattle.model.specs.declared.ItsDeviceId.{ItsDeviceId}
 use Rattle.model.specs.declared.EventId.{EventId}
@@ -11,7 +11,7 @@ use Rattle.model.specs.declared.GicVcpuId.{GicVcpuId}
 use Rattle.model.specs.declared.Delivery.{Delivery}
 use Rattle.model.specs.declared.Command.{Command}
 use Rattle.model.specs.declared.Command.TheVariants.{Mapd, Mapc, Mapti, Mapi, Movi, Int, Clear, Discard, Inv, Invall, Sync}
-use Rattle.model.specs.Choose.{if◌then◌else◌, when_found}
+use Rattle.model.specs.Choose.{when_found}
 use Rattle.model.specs.Profile.{Profile, mapd_ends}
 use Rattle.model.specs.Keys.{delivery, event_as_lpi, same_device, same_collection, same_pair}
 

@@ -2,7 +2,7 @@
 -- Stalled is carried along, and not looked at. `guarantees: Profiles` says that a base unit is this one. Checks and effects of a command are in Step
 -- (check_in01, effect_in01), the sizes in Config (sizes_in01).
 -- Assumes nothing.
-use Rattle.std.specs.Prelude.{ℕ, zero, suc, Bool, ◌&&◌, List, length, leb}
+use Rattle.std.specs.Prelude.{ℕ, zero, suc, Bool, ◌&&◌, List, length, leb, if◌then◌else◌}
 use Rattle.std.proofs.Math.Option.{none, some}
 use Rattle.model.specs.declared.ItsDeviceId.{ItsDeviceId}
 use Rattle.model.specs.declared.EventId.{EventId}
@@ -22,7 +22,7 @@ use Rattle.model.specs.declared.ReadAnswer.TheVariants.{Value, NoValue}
 use Rattle.model.specs.declared.TranslateAnswer.{TranslateAnswer}
 use Rattle.model.specs.declared.TranslateAnswer.TheVariants.{Delivered, NotDelivered}
 use Rattle.model.specs.declared.Configured.{Configured}
-use Rattle.model.specs.Choose.{if◌then◌else◌, ◌or◌then◌, if_found}
+use Rattle.model.specs.Choose.{◌or◌then◌, if_found}
 use Rattle.model.specs.With.{with_registers, with_writer}
 use Rattle.model.specs.Config.{sizes_in01, sound_ring, fresh_unit, answers_no_unit}
 use Rattle.model.specs.Decode.{opcode_of, decode}

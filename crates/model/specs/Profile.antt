@@ -1,8 +1,7 @@
 -- Document 02, A3 and A4: the profile, chosen at configuration.
 -- Assumes nothing.
-use Rattle.std.specs.Prelude.{ℕ, Bool, true, not, leb, eqb}
+use Rattle.std.specs.Prelude.{ℕ, Bool, true, not, leb, eqb, if◌then◌else◌}
 use Rattle.model.specs.declared.ItsConfig.{ItsConfig}
-use Rattle.model.specs.Choose.{if◌then◌else◌}
 
 -- The profiles.
 pub data Profile : Type 0 where

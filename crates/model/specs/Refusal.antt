@@ -1,7 +1,7 @@
 -- Document 01, "Refusal numbers", and document 02, A1 to A3: the number of each refusal, and for each answer that is an enum the paper's number and values in
 -- every case.
 -- Assumes nothing.
-use Rattle.std.specs.Prelude.{ℕ, ◌&&◌, List, [], ◌∷◌, leb}
+use Rattle.std.specs.Prelude.{ℕ, ◌&&◌, List, [], ◌∷◌, leb, if◌then◌else◌}
 use Rattle.model.specs.declared.Refusal.{Refusal}
 use Rattle.model.specs.declared.Refusal.TheVariants.{
   Unsound,
@@ -34,7 +34,6 @@ use Rattle.model.specs.declared.WriteAnswer.{WriteAnswer}
 use Rattle.model.specs.declared.WriteAnswer.TheVariants.{Taken, NotTaken}
 use Rattle.model.specs.declared.TranslateAnswer.{TranslateAnswer}
 use Rattle.model.specs.declared.TranslateAnswer.TheVariants.{Delivered, NotDelivered}
-use Rattle.model.specs.Choose.{if◌then◌else◌}
 
 -- the number of a refusal
 abbrev pub number_of : Refusal → ℕ

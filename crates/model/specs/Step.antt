@@ -1,7 +1,7 @@
 -- Document 01, "Commands", and document 02, A3: the checks of a command in order, the first that fails being the answer, and then its effect on the unit. A command
 -- that is not accepted changes nothing.
 -- Assumes nothing.
-use Rattle.std.specs.Prelude.{ℕ, ◌^◌, Bool, true, false, ◌&&◌, not, List, [], ◌∷◌, leb, ltb}
+use Rattle.std.specs.Prelude.{ℕ, ◌^◌, Bool, true, false, ◌&&◌, not, List, [], ◌∷◌, leb, ltb, if◌then◌else◌}
 use Rattle.std.proofs.Math.Option.{Option, none, some}
 use Rattle.model.specs.declared.ItsDeviceId.{ItsDeviceId}
 use Rattle.model.specs.declared.EventId.{EventId}
@@ -23,7 +23,7 @@ use Rattle.model.specs.declared.Applied.{Applied}
 use Rattle.model.specs.declared.Executed.TheVariants.{NotDone, Done, Acted}
 use Rattle.model.specs.declared.Verdict.{Verdict}
 use Rattle.model.specs.declared.Verdict.TheVariants.{Accepted, Refused}
-use Rattle.model.specs.Choose.{if◌then◌else◌, ◌or◌then◌, when_found, if_found, is_found, list_of}
+use Rattle.model.specs.Choose.{◌or◌then◌, when_found, if_found, is_found, list_of}
 use Rattle.model.specs.Arm.{LPI_base}
 use Rattle.model.specs.Table.{look, room, store, drop_all}
 use Rattle.model.specs.Keys.{same_collection, is_device, is_collection, is_pair, of_device, a_device, a_collection, a_translation, no_device, no_collection, no_translation, delivery, event_as_lpi}

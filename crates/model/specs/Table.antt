@@ -1,9 +1,8 @@
 -- Document 01, "Sizes" and "Refusal numbers": finding, storing and dropping in a table of records. A table is the list of its records, of any
 -- type A and of any length. A record is found by a test; a record that is not used is free.
 -- Assumes nothing.
-use Rattle.std.specs.Prelude.{ℕ, suc, Bool, not, List, [], ◌∷◌, length, set, ltb}
+use Rattle.std.specs.Prelude.{ℕ, suc, Bool, not, List, [], ◌∷◌, length, set, ltb, if◌then◌else◌}
 use Rattle.std.proofs.Math.Option.{Option, none, some}
-use Rattle.model.specs.Choose.{if◌then◌else◌}
 
 module _ {A : Type 0} where
   -- the number of the first record that passes p, or the table's size if none does

@@ -1,6 +1,6 @@
 -- Document 01, "The trace": the records, what each does, the lines, and what fits into the output.
 -- Assumes nothing.
-use Rattle.std.specs.Prelude.{ℕ, zero, suc, ◌+◌, ◌-◌, ◌*◌, ◌/◌, ◌%◌, min, Bool, true, false, ◌&&◌, List, [], ◌∷◌, ◌++◌, map, length, take, drop, get_or, replicate, leb, eqb}
+use Rattle.std.specs.Prelude.{ℕ, zero, suc, ◌+◌, ◌-◌, ◌*◌, ◌/◌, ◌%◌, min, Bool, true, false, ◌&&◌, List, [], ◌∷◌, ◌++◌, map, length, take, drop, get_or, replicate, leb, eqb, if◌then◌else◌}
 use Prim.Native.String.{String}
 use Rattle.model.specs.declared.ItsDeviceId.{ItsDeviceId}
 use Rattle.model.specs.declared.EventId.{EventId}
@@ -9,7 +9,6 @@ use Rattle.model.specs.declared.ItsConfig.{ItsConfig}
 use Rattle.model.specs.declared.ItsState.{ItsState}
 use Rattle.model.specs.declared.ItsAction.{ItsAction}
 use Rattle.model.specs.declared.Refusal.TheVariants.{LineDoesNotFit}
-use Rattle.model.specs.Choose.{if◌then◌else◌}
 use Rattle.model.specs.Text.{ascii}
 use Rattle.model.specs.Refusal.{number_of, verdict_number, ReadNumbers, read_numbers, TranslateNumbers, translate_numbers, WriteNumbers, write_numbers}
 use Rattle.model.specs.Config.{answers_no_unit}

@@ -2,7 +2,7 @@
 -- write stores, whether that is a new base, whether the queue then runs, and the answer where it does not. The entry, what is promised of a write, and
 -- both texts of the unit go by it.
 -- Assumes nothing.
-use Rattle.std.specs.Prelude.{ℕ, ◌+◌, Bool, true, false, ◌&&◌, not, get_or, set, eqb}
+use Rattle.std.specs.Prelude.{ℕ, ◌+◌, Bool, true, false, ◌&&◌, not, get_or, set, eqb, if◌then◌else◌}
 use Rattle.model.specs.declared.ItsConfig.{ItsConfig}
 use Rattle.model.specs.declared.ItsRegisters.{ItsRegisters}
 use Rattle.model.specs.declared.Register.{Register}
@@ -11,7 +11,7 @@ use Rattle.model.specs.declared.RegisterWrite.{RegisterWrite}
 use Rattle.model.specs.declared.Refusal.{Refusal}
 use Rattle.model.specs.declared.Refusal.TheVariants.{BaseZero, WriterRefused}
 use Rattle.model.specs.declared.WriteAnswer.TheVariants.{Taken, NotTaken}
-use Rattle.model.specs.Choose.{if◌then◌else◌, ◌or◌then◌}
+use Rattle.model.specs.Choose.{◌or◌then◌}
 use Rattle.model.specs.Arm.{bits, ◌of◌, ◌in_place◌, without, CTLR_Enabled, CWRITER_Retry, GITS_CWRITER, BASER_Type, BASER_Entry_Size}
 use Rattle.model.specs.With.{with_enabled, with_stalled, with_ring, with_writer, with_basers}
 use Rattle.model.specs.Profile.{is_strict}

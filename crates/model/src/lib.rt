@@ -1,7 +1,6 @@
 // The types of one ITS frame: the unit, its commands and its answers. What they mean is said in specs/.
 #![tactic(auto)]
 
-
 // Numbers of five kinds, kept apart as in the crate.
 #[derive(Clone, Copy)]
 pub struct ItsDeviceId(pub u32);

@@ -1,5 +1,6 @@
 -- The turns of a write add up to the model's run: what each part of a turn comes to, and what is known between two turns.
 -- Assumes nothing.
+use Rattle.std.specs.Prelude.{if◌then◌else◌}
 use Prim.Native.Nat.{ℕ, ◌<◌, ◌≤◌}
 use native.Mathlib.Omega.{arith}
 use mathlib.Core.Path.{◌≡◌, refl, sym, ap, ap₂, subst, ◌∙◌}
@@ -14,7 +15,6 @@ use Rattle.model.specs.declared.ItsAction.{ItsAction}
 use Rattle.model.specs.declared.Command.{Command}
 use Rattle.model.specs.declared.Executed.{Executed}
 use Rattle.model.specs.declared.Executed.TheVariants.{NotDone, Done, Acted}
-use Rattle.model.specs.Choose.{if◌then◌else◌}
 use Rattle.model.specs.With.{with_registers, unit_stalled}
 use Rattle.model.specs.Profile.{is_strict}
 use Rattle.model.specs.Step.{check, stepped, executed}

@@ -1,14 +1,14 @@
 -- A run between two commands, as the code holds it, and how a turn of the model moves it on. No sentence of document 01 stands here:
 -- proofs/Ongoing.antt shows that the turns add up to the model's run.
 -- Assumes nothing.
-use Rattle.std.specs.Prelude.{ℕ, ◌+◌, ◌<◌, ◌≤◌, ◌≡◌, Bool, true, false, List, [], ◌∷◌, leb, ltb}
+use Rattle.std.specs.Prelude.{ℕ, ◌+◌, ◌<◌, ◌≤◌, ◌≡◌, Bool, true, false, List, [], ◌∷◌, leb, ltb, if◌then◌else◌}
 use Rattle.model.specs.declared.ItsState.{ItsState}
 use Rattle.model.specs.declared.ItsAction.{ItsAction}
 use Rattle.model.specs.declared.Executed.{Executed}
 use Rattle.model.specs.declared.Executed.TheVariants.{NotDone, Done, Acted}
 use Rattle.model.specs.declared.WriteAnswer.{WriteAnswer}
 use Rattle.model.specs.declared.Written.{Written}
-use Rattle.model.specs.Choose.{if◌then◌else◌, ◌or◌then◌}
+use Rattle.model.specs.Choose.{◌or◌then◌}
 use Rattle.model.specs.Queue.{Window, Stands, Turn, waiting, command_address, run, halting, may_run}
 use Rattle.model.specs.Entry.{Outcome, after_run}
 use Rattle.answers.specs.declared.Turned.{Turned}

@@ -3,8 +3,7 @@
 // store the action.
 #![tactic(auto)]
 
-ghost use Rattle.std.specs.Prelude.{◌≡◌, [], ◌<◌, length};
-ghost use Rattle.model.specs.Choose.{if◌then◌else◌};
+ghost use Rattle.std.specs.Prelude.{◌≡◌, [], ◌<◌, length, if◌then◌else◌};
 ghost use Rattle.model.specs.Config.{queue_size};
 ghost use Rattle.model.specs.Step.{check};
 ghost use Rattle.model.specs.Queue.{Stands, waiting as waitingOf, stays, judged, past_command, may_run};

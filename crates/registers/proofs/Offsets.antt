@@ -1,5 +1,6 @@
 -- The register that an offset belongs to, found through the base of the 64-bit register that the offset lies in.
 -- Assumes nothing.
+use Rattle.std.specs.Prelude.{if◌then◌else◌}
 use Prim.Native.Nat.{ℕ, zero, suc, ◌+◌, ◌-◌, ◌*◌, ◌/◌, ◌≤◌, ◌<◌}
 use native.Mathlib.Omega.{arith}
 use mathlib.Core.Path.{◌≡◌, refl, sym, ap, ◌∙◌}
@@ -12,7 +13,6 @@ use Rattle.words.specs.declared.BaserIndex.{BaserIndex}
 use Rattle.words.specs.declared.BaserIndex.TheVariants.{Index, NotBaser}
 use Rattle.model.specs.declared.Register.{Register}
 use Rattle.model.specs.declared.Register.TheVariants.{Typer, Cbaser, Cwriter, Creadr, Baser, Reserved}
-use Rattle.model.specs.Choose.{if◌then◌else◌}
 use Rattle.model.specs.Arm.{GITS_TYPER, GITS_CBASER, GITS_CWRITER, GITS_CREADR}
 use Rattle.model.specs.Register.{lies_in, is_baser, register_at}
 use Rattle.words.specs.Offsets.{wide_register_base, baser_index}

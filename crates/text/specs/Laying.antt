@@ -1,8 +1,7 @@
 -- A line as the code hands it over, and an output line by line. No sentence of document 01 stands here: proofs/Fits.antt shows that lines laid one
 -- after the other come to what the model says of them.
 -- Assumes nothing.
-use Rattle.std.specs.Prelude.{ℕ, ◌+◌, ◌≡◌, true, false, List, [], ◌∷◌, ◌++◌, leb, length, take, drop}
-use Rattle.model.specs.Choose.{if◌then◌else◌}
+use Rattle.std.specs.Prelude.{ℕ, ◌+◌, ◌≡◌, true, false, List, [], ◌∷◌, ◌++◌, leb, length, take, drop, if◌then◌else◌}
 use Rattle.model.specs.Text.{ascii}
 use Rattle.model.specs.Trace.{spaced, space}
 use Rattle.text.specs.declared.Line.{Line}

@@ -1,5 +1,6 @@
 -- The end of a run: nothing is left to read, or nothing more is written; and then the output and the number are those of the model.
 -- Assumes nothing.
+use Rattle.std.specs.Prelude.{if◌then◌else◌}
 use Prim.Native.Nat.{ℕ, ◌-◌, ◌≤◌}
 use native.Mathlib.Nat.{zero-add}
 use native.Mathlib.Omega.{arith}
@@ -9,7 +10,6 @@ use mathlib.Core.List.{List}
 use lib.Dec.{ltb}
 use lib.ListN.{length, drop, drop_of_length-le}
 use borrow.Author.Tests.{ltb-false}
-use Rattle.model.specs.Choose.{if◌then◌else◌}
 use Rattle.model.specs.Trace.{trace_lines, all_fit, space, returned, output_after}
 use Rattle.model.proofs.Cases.{cases, never}
 use Rattle.text.specs.declared.Laid.{Laid}

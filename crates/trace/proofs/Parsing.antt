@@ -1,5 +1,6 @@
 -- The model's reading of a record: by its mark, and how much of the bytes a whole record takes.
 -- Assumes nothing.
+use Rattle.std.specs.Prelude.{if◌then◌else◌}
 use Prim.Native.Nat.{ℕ, ◌+◌, ◌-◌, ◌*◌, ◌≤◌, ◌<◌}
 use Prim.Native.String.{String}
 use native.Mathlib.Omega.{arith}
@@ -9,7 +10,6 @@ use mathlib.Core.List.{List}
 use lib.Dec.{leb, eqb}
 use lib.ListN.{length, take, drop, get_or}
 use borrow.Author.Tests.{le-leb, lt-leb, leb-true}
-use Rattle.model.specs.Choose.{if◌then◌else◌}
 use Rattle.model.specs.Text.{ascii}
 use Rattle.model.specs.Trace.{Record, CF, GM, RD, WR, TR, Parsed, whole, broken, number, config_read, window_in, sized, marked, parse}
 use Rattle.model.proofs.Cases.{cases}

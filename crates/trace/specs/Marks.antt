@@ -1,7 +1,6 @@
 -- The model's reading of a record, taken by its mark. No sentence of document 01 stands here: proofs/Parsing.antt shows that it is the model's.
 -- Assumes nothing.
-use Rattle.std.specs.Prelude.{ℕ, ◌+◌, ◌*◌, ◌&&◌, List, leb, length}
-use Rattle.model.specs.Choose.{if◌then◌else◌}
+use Rattle.std.specs.Prelude.{ℕ, ◌+◌, ◌*◌, ◌&&◌, List, leb, length, if◌then◌else◌}
 use Rattle.model.specs.Trace.{CF, GM, RD, WR, TR, Parsed, broken, number, config_read, window_in, sized, marked}
 use Rattle.trace.specs.declared.Mark.{Mark}
 use Rattle.trace.specs.declared.Mark.TheVariants.{Cf, Gm, Rd, Wr, Tr, Bad}

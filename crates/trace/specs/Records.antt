@@ -1,10 +1,9 @@
 -- The run over a trace, taken one record at a time: what stands between two records, and how the model's record moves it on. No sentence of
 -- document 01 stands here: proofs/Rest.antt shows that the records add up to the model's run.
 -- Assumes nothing.
-use Rattle.std.specs.Prelude.{ℕ, ◌+◌, ◌-◌, ◌*◌, ◌≤◌, ◌≡◌, Bool, false, not, ◌&&◌, List, [], ◌∷◌, ltb, length, take, drop}
+use Rattle.std.specs.Prelude.{ℕ, ◌+◌, ◌-◌, ◌*◌, ◌≤◌, ◌≡◌, Bool, false, not, ◌&&◌, List, [], ◌∷◌, ltb, length, take, drop, if◌then◌else◌}
 use Rattle.model.specs.declared.ItsState.{ItsState}
 use Rattle.model.specs.declared.Refusal.TheVariants.{LineDoesNotFit}
-use Rattle.model.specs.Choose.{if◌then◌else◌}
 use Rattle.model.specs.Config.{answers_no_unit}
 use Rattle.model.specs.Refusal.{number_of}
 use Rattle.model.specs.Trace.{Record, CF, GM, RD, WR, TR, Parsed, whole, broken, line, Running, next, lines_of}

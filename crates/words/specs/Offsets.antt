@@ -1,12 +1,11 @@
 -- Where an offset lies, as the code asks it: the base of its 64-bit register, and the number of its BASER. No sentence of document 01 stands here:
 -- crate `registers` goes by these to the model's `register_at`.
 -- Assumes nothing.
-use Rattle.std.specs.Prelude.{ℕ, ◌+◌, ◌-◌, ◌*◌, ◌/◌}
+use Rattle.std.specs.Prelude.{ℕ, ◌+◌, ◌-◌, ◌*◌, ◌/◌, if◌then◌else◌}
 use Rattle.words.specs.declared.WideRegisterBase.{WideRegisterBase}
 use Rattle.words.specs.declared.WideRegisterBase.TheVariants.{Base, NotWide}
 use Rattle.words.specs.declared.BaserIndex.{BaserIndex}
 use Rattle.words.specs.declared.BaserIndex.TheVariants.{Index, NotBaser}
-use Rattle.model.specs.Choose.{if◌then◌else◌}
 use Rattle.model.specs.Arm.{GITS_TYPER, GITS_CBASER, GITS_CWRITER, GITS_CREADR, GITS_BASER}
 use Rattle.model.specs.Register.{lies_in, is_baser}
 
