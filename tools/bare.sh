@@ -1,10 +1,12 @@
 #!/bin/sh
-# A C program on a bare 64-bit Arm machine, emulated, with the vector registers switched off: tools/bare.sh ARCHIVE PROGRAM ..
+# A C program on a bare 64-bit Arm machine, emulated, with the vector registers switched off: tools/bare.sh [-DNAME] ARCHIVE PROGRAM ..
 # PROGRAM .. are sources that define host_main; host/c/start.S and host/c/bare.c stand around them. Where the emulator is not at hand it is installed
 # (Debian's qemu-system-arm); if that fails the program is linked only, and this says so and exits with 3.
 set -eu
 root=$(cd "$(dirname "$0")/.." && pwd)
-[ $# -ge 2 ] || { echo "usage: tools/bare.sh ARCHIVE PROGRAM .." >&2; exit 2; }
+define=''
+case ${1:-} in -D*) define=$1 && shift ;; esac
+[ $# -ge 2 ] || { echo "usage: tools/bare.sh [-DNAME] ARCHIVE PROGRAM .." >&2; exit 2; }
 archive=$1
 shift
 made=$(mktemp -d)
@@ -13,7 +15,7 @@ rt=$(readlink -f "$(command -v rt)")
 tools=${RATTLE_HOME:-$(dirname "$rt")/..}/toolchain/bin
 for part in "$root/host/c/start.S" "$root/host/c/bare.c" "$@"; do
     "$tools/clang" --target=aarch64-none-elf -mgeneral-regs-only -ffreestanding -fno-builtin -isystem "$(gcc -print-file-name=include)" \
-        -I"$root/include" -Wall -Wextra -Werror -O2 -c "$part" -o "$made/$(basename "$part").o"
+        -I"$root/include" ${define:+"$define"} -Wall -Wextra -Werror -O2 -c "$part" -o "$made/$(basename "$part").o"
 done
 "$tools/ld.lld" -static --gc-sections -e _start -Ttext=0x40080000 "$made"/*.o "$archive" -o "$made/program.elf"
 emulator=qemu-system-aarch64

