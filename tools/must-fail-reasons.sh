@@ -1,5 +1,5 @@
 #!/bin/sh
-# What refuses each must-fail edit: tools/must-fail-reasons.sh [--said FOLDER] [--write] [CRATE ..]
+# What refuses each must-fail edit: tools/must-fail-reasons.sh [--anew] [--write] [CRATE ..]
 #
 # `rt ci` and `rt must-fail` say that an edit is refused, and show one error of it. An edit shows something only if a fact fails. So each wrong text in
 # it names the fact that it breaks, and this script checks a copy of the crate with the edit once more, reads all that is said, and fails
@@ -15,21 +15,21 @@
 # fell. For each edit the script prints the first error, and the error at each named fact where that is another one.
 #
 # The libraries below a crate are those that `rt ci` left, or are built first. What a check of the crate as it stands proved is where each edit begins;
-# as many edits are tried side by side as there are processors, and memory for them. With --said all that was said of an edit is kept in that folder, as
-# CRATE.LABEL.log, and an edit with such a file there is not tried again. With --write a fact that nothing was said against, where a goal of the same kind
-# fell in the same function, is named anew in the edit, and the script says which: goals have their names of the code around them.
+# as many edits are tried side by side as there are processors, and memory for them. What was said of an edit is kept on this machine, by the checksums of
+# all that was read (as `rt ci` keeps what it passed), and with the same files the edit is not tried again; --anew tries all. With --write a fact that
+# nothing was said against, where a goal of the same kind fell in the same function, is named anew in the edit, and the script says which: goals
+# have their names of the code around them.
 set -u
 cd "$(dirname "$0")/.." || exit 2
 rt=$(command -v rt) || { echo "must-fail-reasons: rt, the command of the Rattle kit, is not on the PATH" >&2; exit 2; }
 exec python3 -B - "${RATTLE_HOME:-$(dirname "$(dirname "$(readlink -f "$rt")")")}" "$@" <<'PY'
-import glob, os, re, shutil, subprocess, sys, tempfile, threading
+import contextlib, functools, glob, hashlib, os, re, shutil, subprocess, sys, tempfile, threading
 from concurrent.futures import ThreadPoolExecutor
 
 kit, names = sys.argv[1], sys.argv[2:]
-said_in = None
-if names[:1] == ["--said"]:
-    said_in, names = os.path.abspath(names[1]), names[2:]
-    os.makedirs(said_in, exist_ok=True)
+anew = names[:1] == ["--anew"]
+names = names[anew:]
+kept_in = os.path.join(os.environ.get("XDG_CACHE_HOME") or os.path.expanduser("~/.cache"), "must-fail-reasons")
 writes = names[:1] == ["--write"]
 names = names[writes:]
 root = os.getcwd()
@@ -103,13 +103,31 @@ def applied(crate, edit, to, only):
     return None
 
 
+@functools.lru_cache(maxsize=None)
+def sum_of(crate):
+    """A sum of all that a check of the crate reads."""
+    binary = os.stat(f"{kit}/bin/rattle")
+    sum = hashlib.sha256(repr((open(f"{kit}/KIT-ID").read(), binary.st_size, binary.st_mtime_ns, words(crate)[1:2], listed[crate])).encode())
+    for part in PARTS:
+        for path in sorted(f"{at}/{name}" for at, _, found in os.walk(f"crates/{crate}/{part}") for name in found):
+            sum.update(repr((path, open(path, "rb").read())).encode())
+    for dep in listed[crate][1]:
+        sum.update(sum_of(dep).encode() if dep in listed else b"")
+    return sum.hexdigest()
+
+
+def log_of(crate, edit, only=None):
+    """Where it is kept what was said of the edit."""
+    told = (sum_of(crate), open(edit, "rb").read(), only)
+    return f"{kept_in}/{hashlib.sha256(repr(told).encode()).hexdigest()}.log"
+
+
 def tried(crate, edit, only=None):
     """All that is said of the crate with the edit, or why it was not tried."""
-    label = f"{crate}.{os.path.basename(edit)[: -len('.edit')]}" + (".again" if only else "")
-    log = said_in and f"{said_in}/{label}.log"
-    if log and os.path.exists(log):
-        return None, open(log).read()
-    folder = f"{room}/{label}"
+    log = log_of(crate, edit, only)
+    if os.path.exists(log) and not anew:
+        return None, open(log, encoding="utf-8").read()
+    folder = f"{room}/{crate}.{os.path.basename(edit)[: -len('.edit')]}" + (".again" if only else "")
     why = applied(crate, edit, folder, only)
     if why:
         return why, ""
@@ -119,8 +137,12 @@ def tried(crate, edit, only=None):
     linked(kept, f"{folder}/kept")
     status, text = run(crate, folder, "kept")
     shutil.rmtree(folder, ignore_errors=True)
-    if log and status == 1:
-        open(log, "w").write(text)
+    if status == 1:
+        with contextlib.suppress(OSError):
+            os.makedirs(kept_in, exist_ok=True)
+            with tempfile.NamedTemporaryFile("w", dir=kept_in, delete=False, encoding="utf-8") as it:
+                it.write(text)
+            os.replace(it.name, log)
     return (None if status == 1 else f"its check ended with status {status}"), text
 
 
@@ -134,8 +156,16 @@ def seed_of(crate):
     return seeds[crate].result()
 
 
+building = threading.Lock()
+
+
 def seed(crate):
     """What a check of the crate as it stands proved."""
+    with building:
+        for dep in below(crate):
+            if not is_there(dep) and subprocess.run(["rt", "lib"], cwd=f"crates/{dep}", stdout=subprocess.DEVNULL).returncode:
+                print(f"    {dep} cannot be built", flush=True)
+                return None
     kept = f"{room}/{crate}.seed"
     start = f"crates/{crate}/out/incremental"
     if os.path.isdir(start):
@@ -246,16 +276,12 @@ def judge(crate, edit, result):
 edits = [(crate, edit) for crate in listed if not names or crate in names for edit in sorted(glob.glob(f"crates/{crate}/must-fail/*.edit"))]
 crates = list(dict.fromkeys(crate for crate, _ in edits))
 try:
-    for crate in dict.fromkeys(it for name in crates for it in below(name)):
-        if not is_there(crate) and subprocess.run(["rt", "lib"], cwd=f"crates/{crate}", stdout=subprocess.DEVNULL).returncode:
-            sys.exit(f"must-fail-reasons: {crate} cannot be built")
     free = int(re.search(r"MemAvailable: *(\d+)", open("/proc/meminfo").read())[1]) * 1024
     lanes = max(1, min(len(os.sched_getaffinity(0)), free // 3_500_000_000))
     # Seeds have lanes of their own, since an edit that waits for its seed holds one.
     with ThreadPoolExecutor(max(1, lanes // 2)) as first, ThreadPoolExecutor(lanes) as then:
         for crate in crates:
-            labels = [f"{crate}.{os.path.basename(edit)[: -len('.edit')]}" for it, edit in edits if it == crate]
-            if not said_in or not all(os.path.exists(f"{said_in}/{label}.log") for label in labels):
+            if anew or not all(os.path.exists(log_of(*it)) for it in edits if it[0] == crate):
                 with turn:
                     seeds[crate] = first.submit(seed, crate)
         results = [(crate, edit, then.submit(said, crate, edit)) for crate, edit in edits]
