@@ -8,7 +8,7 @@ use mathlib.Core.List.{List, [], ◌∷◌}
 use lib.ListN.{get_or, drop}
 use lib.Seq.{get_or-drop}
 use lib.Dec.{eqb}
-use borrow.Author.Tests.{lt-leb, ne_eqb, eqb-true}
+use borrow.Author.Tests.{ne_eqb, eqb-true}
 use Rattle.model.specs.declared.ItsConfig.{ItsConfig}
 use Rattle.model.specs.declared.ItsState.{ItsState}
 use Rattle.model.specs.declared.ItsAction.{ItsAction}
@@ -24,7 +24,7 @@ use Rattle.model.specs.Queue.{Window, held, may_run}
 use Rattle.model.specs.Refusal.{verdict_number}
 use Rattle.model.specs.Entry.{Outcome, configure, stores}
 use Rattle.model.proofs.Cases.{cases, never, and_left, and_right}
-use Rattle.model.proofs.Profiles.{off_and, is_strict_lem, held_may}
+use Rattle.model.proofs.Profiles.{is_strict_lem, held_may}
 use Rattle.model.proofs.Ways.{Way, checked, no_base, no_writer, quiet, based, off, over, ran, way}
 use Rattle.its.specs.Promises.{Configures, Writes}
 use Rattle.lent_tables.specs.Numbers.{LAYOUT, LAYOUT_NUMBER, word, laid_out, config_in, unit_in}
@@ -32,6 +32,7 @@ use Rattle.host.specs.Calls.{setting, SETTINGS, all_zero, none_further, config_g
 use Rattle.guarantees.specs.Refusals.{AnswersOne}
 use Rattle.guarantees.specs.Profiles.{OnlyStores}
 use Rattle.guarantees.proofs.Unsound.{unsound_answers_1}
+use Rattle.guarantees.proofs.NotConfigured.{not_configured}
 
 module _ (w : Window) (row : List ItsAction) (u : ItsState) (offset width value : ℕ) where
   -- a write with a new base lets no queue run
@@ -62,10 +63,6 @@ module _ (w : Window) (row : List ItsAction) (u : ItsState) (offset width value 
       rw (e.answer, e.row_is) (held_by_way (way w row u offset width value) runs (rw (is_strict_lem u.config s, clear) refl))
 
 -- a profile that there is not
-not_configured : (k : ItsConfig) → 1 < k.profile → (configure k).verdict ≡ Refused Unsound
-unfolding configure sound_config
-not_configured k above = rw (lt-leb k.profile 1 above, off_and (sizes_in01 k))
-
 pub no_such_profile : (k : ItsConfig) (c : Configured) → Configures k c → 1 < k.profile → c.verdict ≡ Refused Unsound
 no_such_profile k c e above = ap (λ z. z.verdict) e.answer ∙ not_configured k above
 

@@ -10,6 +10,7 @@ pub mod Refused
 pub mod Because
 pub mod Leaves
 pub mod Unsound
+pub mod NotConfigured
 pub mod Holding
 pub mod Follows
 pub mod Along
