@@ -81,7 +81,7 @@ def sentences(page, wrong):
             crate, name = word.split("::")
             sources = map(read, glob.glob(f"crates/{crate}/src/**/*.rt", recursive=True))
             any(re.search(f'pub (extern "C" )?fn {name}[<(]', text) for text in sources) or wrong(f"no function {word}")
-        elif re.fullmatch("guarantees: [a-z0-9_]*", word):
+        elif re.fullmatch("guarantees: [a-z0-9_-]*", word):
             name = word.split(": ")[1]
             re.search(f"^  pub {name} :", read("crates/guarantees/specs/Theorems.antt"), re.M) or wrong(f"no theorem {name}")
     for label in quoted("\n".join(re.findall("must-fail .*", page))):
@@ -99,7 +99,7 @@ def entries(page, wrong):
         for head, call, name in re.findall(r'^(pub (extern "C" )?fn (\w+).*?)^\{$', read(path), re.M | re.S):
             if call or name in named and f"`{path}`" in row:
                 found.add(name)
-                "requires {" in head and wrong(f"{path}: {name} has a `requires`")
+                re.search(r"\brequires\*?( \w+)? \{", head) and wrong(f"{path}: {name} has a `requires`")
     for name in sorted(named ^ found):
         wrong(f"{name} is no public entry" if name in named else f"it does not name the C call {name}")
     return len(found)
@@ -109,7 +109,7 @@ def guarantees(page, wrong):
     """`File.name` and `proofs/File.name` are of crates/guarantees, `CRATE: File.name` of another."""
     count = 0
     for word in quoted(page):
-        found = re.fullmatch(r"(?:([a-z_]+): )?((?:proofs/)?[A-Z][A-Za-z0-9]*\.[A-Za-z][A-Za-z0-9_]*)", word)
+        found = re.fullmatch(r"(?:([a-z_]+): )?((?:proofs/)?[A-Z][A-Za-z0-9]*\.[A-Za-z][A-Za-z0-9_-]*)", word)
         if found and not re.search(r"\.(md|antt)$|File\.name$", word):
             count += 1
             path, name = placed(found[2], found[1] or "guarantees")
