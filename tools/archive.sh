@@ -71,18 +71,7 @@ if [ $# -ne 1 ] || [ ! -f "crates/${1}_c/src/lib.rt" ]; then usage; fi
 name=$1
 crate=${name}_c
 
-deps_of() { sed 's/#.*//' crates.txt | sed -n -E "s/^ *$1( +staticlib)? *://p"; }
-# The crate and all that it stands on in this repository.
-reached=''
-reach() {
-    for each; do
-        case " $reached " in *" $each "*) continue ;; esac
-        [ -d "crates/$each" ] || continue
-        reached="$reached $each"
-        # shellcheck disable=SC2046
-        reach $(deps_of "$each")
-    done
-}
+. tools/crates.sh
 work=$(mktemp -d)
 trap 'rm -rf "$work"' EXIT
 reach "$crate"

@@ -32,17 +32,7 @@ else
 fi
 
 cd "$root"
-deps_of() { sed 's/#.*//' crates.txt | sed -n -E "s/^ *$1( +staticlib)? *://p"; }
-reached=''
-reach() {
-    for each; do
-        case " $reached " in *" $each "*) continue ;; esac
-        [ -d "crates/$each" ] || continue
-        reached="$reached $each"
-        # shellcheck disable=SC2046
-        reach $(deps_of "$each")
-    done
-}
+. tools/crates.sh
 reach "$program"
 built=crates/$program/out/$program
 is_built() {
