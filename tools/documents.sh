@@ -77,8 +77,8 @@ def sentences(page, wrong):
         if re.fullmatch(r"(proofs/)?[A-Z][A-Za-z0-9]*\.[^ ]+", word):
             path, name = placed(word, "model")
             declared(path, name) or wrong(f"{path} has no {name}")
-        elif re.fullmatch("[a-z_]*::[a-z_0-9]*", word):
-            crate, name = word.split("::")
+        elif re.fullmatch("[a-z_]*::([A-Z][A-Za-z]*::)?[a-z_0-9]*", word):
+            crate, *_, name = word.split("::")
             sources = map(read, glob.glob(f"crates/{crate}/src/**/*.rt", recursive=True))
             any(re.search(f'pub (extern "C" )?fn {name}[<(]', text) for text in sources) or wrong(f"no function {word}")
         elif re.fullmatch("guarantees: [a-z0-9_-]*", word):

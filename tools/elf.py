@@ -31,7 +31,7 @@ def functions(path):
         holds = lambda i: i < count and sections[i][2] & 4  # instructions
         for i in range(count):
             if holds(i) and sections[i][5]:
-                function = name(i).removeprefix(".text.")
+                function = name(i).removeprefix(".text.").removeprefix("unlikely.")
                 if function in found:
                     raise ValueError(f"{path}: two functions {function}")
                 found[function] = (file[sections[i][4] :][: sections[i][5]], set())
@@ -43,10 +43,10 @@ def functions(path):
                 number = struct.unpack_from("<Q", file, at + 8)[0] >> 32
                 label, _, _, place = struct.unpack_from("<IBBH", file, symbols + 24 * number)
                 if holds(place):
-                    target = name(place).removeprefix(".text.")
+                    target = name(place).removeprefix(".text.").removeprefix("unlikely.")
                 elif place == 0:
                     target = _text(file, strings + label)
                 else:
                     continue  # a table of constants
-                found[name(info).removeprefix(".text.")][1].add(target)
+                found[name(info).removeprefix(".text.").removeprefix("unlikely.")][1].add(target)
     return found

@@ -35,7 +35,7 @@ look "$made/trace.bc" "$machine"
 for target in x86_64 aarch64 aarch64-none; do look "$made/host.bc" "$target"; done
 # The same modules, in which the entries by value and the reads are no longer local to the module and so are not merged into their callers.
 for module in host trace; do
-    sed -E 's/^define internal (.*@"(its::(no_unit|configure|read_its|translate|write_its|write_lent)|decoding::command_at|window::read_command)"\(.*\)) #0 \{$/define \1 noinline #0 {/' \
+    sed -E 's/^define internal (.*@"(its::(no_unit|configure|read_its|translate|write_its|write_lent)|decoding::GuestWindow::command|window::read_command)"\(.*\)) #0 \{$/define \1 noinline #0 {/' \
         "$work/$module.ll" >"$work/$module-apart.ll"
     cp "$made/$module.bc.words" "$work/$module-apart.bc.words"
     for target in "$machine" aarch64-none; do look "$work/$module-apart.ll" "$target"; done
@@ -206,7 +206,7 @@ print("The read of a command, as a function of its own, and merged into its_writ
 print()
 print("| where | machine | bytes of stack | objects on the stack |")
 print("|---|---|---|---|")
-for module, read in [("host", "decoding::command_at"), ("trace", "window::read_command")]:
+for module, read in [("host", "decoding::GuestWindow::command"), ("trace", "window::read_command")]:
     for target in targets:
         code = apart[module, target]
         reached = code.reached(read)

@@ -10,7 +10,7 @@ places = {
     "below both": "model words registers decoding answers",
     "by value": "tables command window queue its text trace trace_c",
     "over numbers": "lent_tables lent_command lent_queue host host_c",
-    "about both": "arm_agreement guarantees mappings showing corners by_hand inforce itstrace replay",
+    "about both": "arm_agreement guarantees mappings showing corners by_hand input inforce itstrace replay",
 }
 place = {crate: name for name, crates in places.items() for crate in crates.split()}
 may = {"below both": ["below both"], "by value": ["below both", "by value", "of the kit"], "over numbers": ["below both", "over numbers", "of the kit"]}

@@ -1,11 +1,11 @@
 -- The counts are the model's run: between two commands they say what was done and what is left, and at the end they answer what the run answers.
 -- Assumes nothing.
+use Rattle.std.specs.Prelude.{None}
 use Prim.Native.Nat.{ℕ, ◌+◌, ◌-◌, ◌<◌, ◌≤◌}
 use native.Mathlib.Omega.{arith}
 use mathlib.Core.Path.{◌≡◌, refl, sym, ap, ◌∙◌}
 use mathlib.Core.Bool.{true}
 use mathlib.Core.List.{List, [], ◌∷◌, ◌++◌, append-nil}
-use mathlib.Core.Option.{none}
 use lib.ListN.{length, length-append}
 use Rattle.model.specs.declared.ItsState.{ItsState}
 use Rattle.model.specs.declared.ItsAction.{ItsAction}
@@ -23,8 +23,8 @@ use Rattle.answers.specs.Counting.{unit_past, handed_by, acts, passing, turned_b
 module _ (w : Window) where
   -- between two commands of the run of `count` commands from the unit u₀: u is the unit now, n the counts, and made the actions so far
   pub record Counting (count : ℕ) (u₀ u : ItsState) (n : Counts) (made : List ItsAction) : Type 0 where
-    pub run_so_far : Going w count u₀ u n.left n.done made (stop_of n.stopped)
-    pub counted : length made ≡ n.actions
+    pub run_so_far : Going w count u₀ u n.left n.made.done made (stop_of n.stopped)
+    pub counted : length made ≡ n.made.actions
     -- the budget was tested before
     pub not_over : n.stopped ≡ Over → ⊥
 
@@ -35,15 +35,15 @@ module _ (w : Window) where
     pub stands : Stands u
     stands = g.run_so_far.stands
 
-    pub fits : n.done + n.left ≤ count
+    pub fits : n.made.done + n.left ≤ count
     fits = g.run_so_far.fits
 
-    pub room : n.actions + n.left ≤ count
+    pub room : n.made.actions + n.left ≤ count
     room = omega (arith, g.run_so_far.room, g.counted)
 
     module _ (more : 0 < n.left) where
       -- a command that passes, with the actions l
-      passed : (v : ItsState) (l : List ItsAction) → length l ≤ 1 → Going w count u₀ v (n.left - 1) (n.done + 1) (made ++ l) none →
+      passed : (v : ItsState) (l : List ItsAction) → length l ≤ 1 → Going w count u₀ v (n.left - 1) (n.made.done + 1) (made ++ l) None →
           Counting count u₀ v (counted_on n (passing (acts l))) (made ++ l)
       passed v [] h k = record { run_so_far = k; counted = length-append made [] ∙ omega (arith, g.counted); not_over = λ e. never true refl (cc) }
       passed v (a ∷ []) h k = record { run_so_far = k; counted = length-append made (a ∷ []) ∙ omega (arith, g.counted); not_over = λ e. never true refl (cc) }
@@ -64,14 +64,14 @@ module _ (w : Window) where
       fewer (passes x) = fewer_by (actions_of u x)
       fewer (stays r opcode) = omega arith
 
-    answers_by : (s : Stopped) → answer_of (record { unit = u; done = n.done; actions = made; stopped = stop_of s }) ≡ answering_by s u.registers.creadr n.done n.actions
-    answers_by Ended = ap (λ k. answering_by Ended u.registers.creadr n.done k) g.counted
-    answers_by Over = ap (λ k. answering_by Over u.registers.creadr n.done k) g.counted
-    answers_by (Halted r opcode) = ap (λ k. answering_by (Halted r opcode) u.registers.creadr n.done k) g.counted
+    answers_by : (s : Stopped) → answer_of (record { unit = u; done = n.made.done; actions = made; stopped = stop_of s }) ≡ answering_by s u.registers.creadr n.made.done n.made.actions
+    answers_by Ended = ap (λ k. answering_by Ended u.registers.creadr n.made.done k) g.counted
+    answers_by Over = ap (λ k. answering_by Over u.registers.creadr n.made.done k) g.counted
+    answers_by (Halted h) = ap (λ k. answering_by (Halted h) u.registers.creadr n.made.done k) g.counted
 
     -- the end
     module _ (z : n.left ≡ 0) where
-      ended : run w count u₀ ≡ record { unit = u; done = n.done; actions = made; stopped = stop_of n.stopped }
+      ended : run w count u₀ ≡ record { unit = u; done = n.made.done; actions = made; stopped = stop_of n.stopped }
       ended = run_ends w g.run_so_far z
 
       pub unit_ends : u ≡ (run w count u₀).unit
@@ -80,7 +80,7 @@ module _ (w : Window) where
       left_by : (s : Stopped) → (s ≡ Over → ⊥) → unit_left s u ≡ if_found (stop_of s) (λ z. stall u) u
       left_by Ended h = refl
       left_by Over h = absurd (h refl)
-      left_by (Halted r opcode) h = refl
+      left_by (Halted halt) h = refl
 
       -- the unit, with Stalled where a command was refused
       pub left_ends : unit_left n.stopped u ≡ (halting (run w count u₀)).unit

@@ -1,5 +1,6 @@
 -- One turn of the queue, from what carrying out its command came to, as the code of both texts accounts for it. The unit is any.
 -- Assumes nothing.
+use Rattle.std.specs.Prelude.{Err, None, Ok, Some}
 use Prim.Native.Nat.{ℕ, ◌≤◌}
 use native.Mathlib.Omega.{arith}
 use mathlib.Core.Path.{◌≡◌, refl, sym, ap, ◌∙◌}
@@ -10,13 +11,11 @@ use Rattle.model.specs.declared.ItsState.{ItsState}
 use Rattle.model.specs.declared.ItsAction.{ItsAction}
 use Rattle.model.specs.declared.Command.{Command}
 use Rattle.model.specs.declared.Refusal.{Refusal}
-use Rattle.model.specs.declared.Executed.TheVariants.{NotDone, Done, Acted}
 use Rattle.model.specs.With.{with_registers}
 use Rattle.model.specs.Step.{check, effect, actions_of, stepped, executed}
 use Rattle.model.specs.Queue.{Turn, passes, stays, judged, past_command, carry_out}
 use Rattle.model.proofs.RunLaws.{one_handed, told_refused, told_done, told_acted}
-use Rattle.answers.specs.declared.Turned.{Turned}
-use Rattle.answers.specs.Counting.{unit_past, handed_by, passing, staying, turned_by}
+use Rattle.answers.specs.Counting.{Turned, unit_past, handed_by, passing, staying, turned_by}
 
 -- The turn y of the unit u leaves the unit v, its account is t, and it hands over these actions.
 pub record Turning (u : ItsState) (y : Turn) (v : ItsState) (t : Turned) (handed : List ItsAction) : Type 0 where
@@ -42,7 +41,7 @@ module _ (u : ItsState) (x : Command) (opcode : ℕ) {m : ItsState} (after : m �
   abbrev y : Turn
   y = judged (check u x) x opcode
 
-  pub is_refused : {t : Turned} {why : Refusal} → NotDone why ≡ executed u x → t ≡ staying why opcode → Turning u y m t []
+  pub is_refused : {t : Turned} {why : Refusal} → Err why ≡ executed u x → t ≡ staying why opcode → Turning u y m t []
   is_refused e h = let k = told_refused u x opcode (sym e) in rw (after ∙ k.1) (turn_stays k.0 h)
 
   module _ {v : ItsState} (p : v ≡ with_registers m (past_command m.registers)) where
@@ -50,8 +49,8 @@ module _ (u : ItsState) (x : Command) (opcode : ℕ) {m : ItsState} (after : m �
     unfolding carry_out
     past e = p ∙ ap (λ w. with_registers w (past_command w.registers)) (after ∙ e)
 
-    pub is_done : {t : Turned} → Done ≡ executed u x → t ≡ passing false → Turning u y v t []
+    pub is_done : {t : Turned} → (Ok None) ≡ executed u x → t ≡ passing false → Turning u y v t []
     is_done e h = let k = told_done u x opcode (sym e) in turn_passes k.0 (past k.1) (sym k.2) (rw k.2 h)
 
-    pub is_acted : {t : Turned} {a : ItsAction} → Acted a ≡ executed u x → t ≡ passing true → Turning u y v t (a ∷ [])
+    pub is_acted : {t : Turned} {a : ItsAction} → Ok (Some a) ≡ executed u x → t ≡ passing true → Turning u y v t (a ∷ [])
     is_acted e h = let k = told_acted u x opcode (sym e) in turn_passes k.0 (past k.1) (sym k.2) (rw k.2 h)

@@ -4,11 +4,12 @@
 
 ghost use Rattle.std.specs.Prelude.{◌≡◌, ◌∷◌, [], ◌+◌, ◌<◌, ◌^◌};
 ghost use Rattle.model.specs.Refusal.{number_of, verdict_number, read_numbers, write_numbers, translate_numbers};
-ghost use Rattle.answers.specs.Counting.{staying, passing, counted_on, is_halted, is_refusal, answering};
+ghost use Rattle.answers.specs.Counting.{begun, counted_on, is_halted, refused_at, answering};
 
-use model::{ReadAnswer, Refusal, TranslateAnswer, Verdict, WriteAnswer};
+use model::{Delivery, Refusal, WriteAnswer, WriteDone, WriteRefusal};
 
 // The number of a refusal.
+// Stays: it is no `From<Refusal> for u64`, both of whose types are of other crates.
 pub fn refusal_number(refusal: Refusal) -> u64
     ensures { result ≡ number_of refusal }
 {
@@ -36,25 +37,19 @@ pub fn refusal_number(refusal: Refusal) -> u64
 }
 
 // The number of a verdict: 0 for what was accepted.
-pub fn verdict_number(verdict: Verdict) -> u64
+pub fn verdict_number(verdict: Result<(), Refusal>) -> u64
     ensures { result ≡ verdict_number verdict }
 {
-    match verdict {
-        Verdict::Accepted => 0,
-        Verdict::Refused(refusal) => refusal_number(refusal),
-    }
+    verdict.err().map_or(0, refusal_number)
 }
 
 // The numbers of a read: refusal and value.
-pub fn read_numbers(answer: ReadAnswer) -> [u64; 5]
+pub fn read_numbers(answer: Result<u64, Refusal>) -> [u64; 5]
     ensures { result ≡ (read_numbers answer).refusal ∷ (read_numbers answer).value ∷ 0 ∷ 0 ∷ 0 ∷ [] }
 {
     match answer {
-        ReadAnswer::Value(value) => [0, value, 0, 0, 0],
-        ReadAnswer::NoValue(refusal) => {
-            let number = refusal_number(refusal);
-            [number, 0, 0, 0, 0]
-        }
+        Ok(value) => [0, value, 0, 0, 0],
+        Err(why) => [refusal_number(why), 0, 0, 0, 0],
     }
 }
 
@@ -63,62 +58,26 @@ pub fn write_numbers(answer: WriteAnswer) -> [u64; 5]
     ensures { result ≡ (write_numbers answer).refusal ∷ (write_numbers answer).opcode ∷ (write_numbers answer).offset ∷ (write_numbers answer).done ∷ (write_numbers answer).actions ∷ [] }
 {
     match answer {
-        WriteAnswer::Taken { done, actions } => {
-            let d = done as u64;
-            let a = actions as u64;
-            [0, 0, 0, d, a]
-        }
-        WriteAnswer::NotTaken {
-            refusal,
-            opcode,
-            offset,
-            done,
-            actions,
-        } => {
-            let number = refusal_number(refusal);
-            let o = opcode as u64;
-            let d = done as u64;
-            let a = actions as u64;
-            [number, o, offset, d, a]
+        Ok(taken) => [0, 0, 0, taken.done as u64, taken.actions as u64],
+        Err(why) => {
+            [
+                refusal_number(why.refusal),
+                u64::from(why.opcode),
+                why.offset,
+                why.done as u64,
+                why.actions as u64,
+            ]
         }
     }
 }
 
 // The numbers of a translation: refusal, LPI, processor.
-pub fn translate_numbers(answer: TranslateAnswer) -> [u64; 5]
+pub fn translate_numbers(answer: Result<Delivery, Refusal>) -> [u64; 5]
     ensures { result ≡ (translate_numbers answer).refusal ∷ (translate_numbers answer).lpi ∷ (translate_numbers answer).processor ∷ 0 ∷ 0 ∷ [] }
 {
     match answer {
-        TranslateAnswer::Delivered(delivery) => {
-            let lpi = delivery.lpi;
-            let target = delivery.target;
-            let l = lpi.0 as u64;
-            let p = target.0 as u64;
-            [0, l, p, 0, 0]
-        }
-        TranslateAnswer::NotDelivered(refusal) => {
-            let number = refusal_number(refusal);
-            [number, 0, 0, 0, 0]
-        }
-    }
-}
-
-// Whether a write is refused.
-pub fn is_refused(answer: WriteAnswer) -> bool
-    ensures { result ≡ is_refusal answer }
-{
-    match answer {
-        WriteAnswer::Taken {
-            done: _,
-            actions: _,
-        } => false,
-        WriteAnswer::NotTaken {
-            refusal: _,
-            opcode: _,
-            offset: _,
-            done: _,
-            actions: _,
-        } => true,
+        Ok(Delivery { lpi, target }) => [0, u64::from(lpi.0), u64::from(target.0), 0, 0],
+        Err(why) => [refusal_number(why), 0, 0, 0, 0],
     }
 }
 
@@ -127,130 +86,111 @@ pub fn handed(answer: WriteAnswer) -> usize
     ensures { result ≡ (write_numbers answer).actions }
 {
     match answer {
-        WriteAnswer::Taken { done: _, actions } => actions,
-        WriteAnswer::NotTaken {
-            refusal: _,
-            opcode: _,
-            offset: _,
-            done: _,
-            actions,
-        } => actions,
+        Ok(taken) => taken.actions,
+        Err(why) => why.actions,
     }
 }
 
-// Why a run ended: nothing was left to carry out; more commands wait than the budget; or a command was refused, with its opcode, which is 0 where it was
-// not read.
-#[derive(Clone, Copy)]
+// A command that is refused: why, and its opcode, which is 0 where it was not read.
+#[derive(Clone, Copy, Debug, PartialEq, Eq)]
+pub struct Halt {
+    pub refusal: Refusal,
+    pub opcode: u8,
+}
+
+impl Halt {
+    // One that concerns no command that was read.
+    pub fn unread(refusal: Refusal) -> Halt
+        ensures { result ≡ record { refusal = refusal; opcode = 0 } }
+    {
+        Halt { refusal, opcode: 0 }
+    }
+
+    // The refusal of a write that stops here, after what was done, CREADR standing at this offset.
+    pub fn refused(self, made: WriteDone, offset: u64) -> WriteRefusal
+        ensures { result ≡ refused_at self made offset }
+    {
+        WriteRefusal {
+            refusal: self.refusal,
+            opcode: self.opcode,
+            offset,
+            done: made.done,
+            actions: made.actions,
+        }
+    }
+}
+
+// Why a run ended: nothing was left to carry out; more commands wait than the budget; or a command was refused.
+#[derive(Clone, Copy, Debug, PartialEq, Eq)]
 pub enum Stopped {
     Ended,
     Over,
-    Halted(Refusal, u8),
+    Halted(Halt),
 }
 
-// What a turn comes to: whether CREADR passed a command, whether that made an action, and why it stopped where it did.
-#[derive(Clone, Copy)]
-pub struct Turned {
-    pub passed: bool,
-    pub acted: bool,
-    pub stopped: Stopped,
+impl Stopped {
+    // Whether a command was refused.
+    pub fn is_halted(self) -> bool
+        ensures { result ≡ is_halted self }
+    {
+        matches!(self, Stopped::Halted(_))
+    }
 }
 
 // The run between two commands: how many are left, how many were carried out and how many actions they made, and why the run ended.
-#[derive(Clone, Copy)]
+#[derive(Clone, Copy, Debug, PartialEq, Eq)]
 pub struct Counts {
     pub left: u64,
-    pub done: usize,
-    pub actions: usize,
+    pub made: WriteDone,
     pub stopped: Stopped,
 }
 
-pub fn stays(why: Refusal, opcode: u8) -> Turned
-    ensures { result ≡ staying why opcode }
-{
-    Turned {
-        passed: false,
-        acted: false,
-        stopped: Stopped::Halted(why, opcode),
+impl Counts {
+    // The counts before the first of so many turns.
+    pub fn begun(left: u64) -> Counts
+        ensures { result ≡ begun left }
+    {
+        Counts {
+            left,
+            made: WriteDone {
+                done: 0,
+                actions: 0,
+            },
+            stopped: Stopped::Ended,
+        }
     }
-}
 
-pub fn passes(acted: bool) -> Turned
-    ensures { result ≡ passing acted }
-{
-    Turned {
-        passed: true,
-        acted: acted,
-        stopped: Stopped::Ended,
+    // The counts after a turn: CREADR passed a command, which made an action or none, or the run stops where it stands.
+    pub fn counted(self, turned: Result<bool, Halt>) -> Counts
+        requires { (0 < self.left) × (self.made.done + self.left < 2 ^ 32) × (self.made.actions + self.left < 2 ^ 32) }
+        ensures { result ≡ counted_on self turned }
+    {
+        match turned {
+            Ok(acted) => Counts {
+                left: self.left - 1,
+                made: WriteDone {
+                    done: self.made.done + 1,
+                    actions: self.made.actions + usize::from(acted),
+                },
+                stopped: Stopped::Ended,
+            },
+            Err(halt) => Counts {
+                left: 0,
+                stopped: Stopped::Halted(halt),
+                ..self
+            },
+        }
     }
-}
 
-// The counts after a turn.
-pub fn counted(n: Counts, t: Turned) -> Counts
-    requires { (0 < n.left) × (n.done + n.left < 2 ^ 32) × (n.actions + n.left < 2 ^ 32) }
-    ensures { result ≡ counted_on n t }
-{
-    let stopped = t.stopped;
-    if !t.passed {
-        return Counts {
-            left: 0,
-            done: n.done,
-            actions: n.actions,
-            stopped: stopped,
+    // What a run answers, CREADR being where it stands after it.
+    pub fn answer(self, creadr: u64) -> WriteAnswer
+        ensures { result ≡ answering self creadr }
+    {
+        let halt = match self.stopped {
+            Stopped::Ended => return Ok(self.made),
+            Stopped::Over => Halt::unread(Refusal::BudgetExceeded),
+            Stopped::Halted(halt) => halt,
         };
-    }
-    let left = n.left - 1;
-    let done = n.done + 1;
-    if t.acted {
-        let actions = n.actions + 1;
-        return Counts {
-            left: left,
-            done: done,
-            actions: actions,
-            stopped: stopped,
-        };
-    }
-    Counts {
-        left: left,
-        done: done,
-        actions: n.actions,
-        stopped: stopped,
-    }
-}
-
-// Whether a command was refused.
-pub fn is_halted(stopped: Stopped) -> bool
-    ensures { result ≡ is_halted stopped }
-{
-    match stopped {
-        Stopped::Ended => false,
-        Stopped::Over => false,
-        Stopped::Halted(_, _) => true,
-    }
-}
-
-// What a run answers, CREADR being where it stands after it.
-pub fn answer_of(n: Counts, creadr: u64) -> WriteAnswer
-    ensures { result ≡ answering n creadr }
-{
-    let stopped = n.stopped;
-    match stopped {
-        Stopped::Ended => WriteAnswer::Taken {
-            done: n.done,
-            actions: n.actions,
-        },
-        Stopped::Over => WriteAnswer::NotTaken {
-            refusal: Refusal::BudgetExceeded,
-            opcode: 0,
-            offset: creadr,
-            done: n.done,
-            actions: n.actions,
-        },
-        Stopped::Halted(why, opcode) => WriteAnswer::NotTaken {
-            refusal: why,
-            opcode: opcode,
-            offset: creadr,
-            done: n.done,
-            actions: n.actions,
-        },
+        Err(halt.refused(self.made, creadr))
     }
 }

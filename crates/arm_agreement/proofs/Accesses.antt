@@ -1,5 +1,6 @@
 -- Each access that Arm's registers take is accepted by a sound unit, and is to the register and the half that Arm says.
 -- Assumes nothing.
+use Rattle.std.specs.Prelude.{Ok}
 use Prim.Native.Nat.{ℕ, zero, suc, ◌+◌, ◌%◌, ◌≤◌}
 use native.Mathlib.Omega.{arith}
 use mathlib.Core.Path.{◌≡◌, refl, sym}
@@ -9,7 +10,6 @@ use borrow.Author.Tests.{leb-true, ltb-true, le-leb, eqb-true}
 use Rattle.model.specs.declared.ItsConfig.{ItsConfig}
 use Rattle.model.specs.declared.ItsState.{ItsState}
 use Rattle.model.specs.declared.Register.{Register}
-use Rattle.model.specs.declared.Verdict.TheVariants.{Accepted}
 use Rattle.model.specs.Arm.{is_identification}
 use Rattle.model.specs.Config.{sizes_in01, sound_config, sound_unit}
 use Rattle.model.specs.Register.{register_at, takes_width}
@@ -95,7 +95,7 @@ module _ (u : ItsState) (sound : sound_unit u ≡ true) (offset width : ℕ) (fi
       (le-leb (offset + width) u.config.frame_size (omega (arith, leb-true (offset + width) 65536 (and_left (leb (offset + width) 65536) _ g), frame u.config (and_left (sound_config u.config) _ sound))))
       (and_right (leb (offset + width) 65536) _ g))
 
-  pub access_accepted : check_access u.config offset width ≡ Accepted
+  pub access_accepted : check_access u.config offset width ≡ Ok tt
   unfolding check_access
   access_accepted =
       let f = and_right (width_is && (leb (offset + width) 65536 && eqb (offset % width) 0)) _ fits in

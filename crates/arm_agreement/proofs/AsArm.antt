@@ -1,11 +1,10 @@
 -- THE UNIT DOES WHAT ARM SAYS, under the conditions of specs/Conditions.antt: one command, any number of them from a fresh unit, INT and CLEAR,
 -- and the translation of a message.
 -- Assumes nothing.
-use Rattle.std.specs.Prelude.{if◌then◌else◌}
+use Rattle.std.specs.Prelude.{if◌then◌else◌, None, Option, Some}
 use mathlib.Core.Path.{◌≡◌, refl, ◌∙◌}
 use mathlib.Core.Bool.{false}
 use mathlib.Core.List.{List, [], ◌∷◌}
-use mathlib.Core.Option.{Option, none, some}
 use Rattle.model.specs.declared.ItsConfig.{ItsConfig}
 use Rattle.model.specs.declared.ItsState.{ItsState}
 use Rattle.model.specs.declared.Command.{Command}
@@ -30,8 +29,8 @@ unfolding stepped
 taken u x = by (as_command x)
   where
     by : (o : Option Command) → if_found o (λ y. stepped u y) u ≡ (if if_found o (λ y. accepts u y) false then if_found o (λ y. effect u y) u else u)
-    by none = refl
-    by (some y) = refl
+    by None = refl
+    by (Some y) = refl
 
 -- ONE COMMAND
 pub step_as_arm : (u : ItsState) (t : Tables) → WellMapped (arm_of u) → (x : ArmCommand) → Under u t x → arm_of (unit_after_lem u x) ≡ next_mappings (announced_by u.config t) (arm_of u) x
@@ -45,8 +44,8 @@ unfolding stepped
 config_stays u x = by (as_command x)
   where
     by : (o : Option Command) → (if_found o (λ y. stepped u y) u).config ≡ u.config
-    by none = refl
-    by (some y) = cases (accepts u y) (λ h. rw h (rest_effect u y h).0) (λ h. rw h)
+    by None = refl
+    by (Some y) = cases (accepts u y) (λ h. rw h (rest_effect u y h).0) (λ h. rw h)
 
 -- ANY NUMBER OF COMMANDS
 pub run_as_arm : (t : Tables) (xs : List ArmCommand) (u : ItsState) → WellMapped (arm_of u) → AllUnder t u xs →

@@ -1,6 +1,6 @@
 -- Type and Entry_Size of every GITS_BASER stay under every write: to any offset, of any width, refused or not.
 -- Assumes nothing.
-use Rattle.std.specs.Prelude.{if◌then◌else◌}
+use Rattle.std.specs.Prelude.{if◌then◌else◌, Err, Ok}
 use Prim.Native.Nat.{ℕ, ◌<◌}
 use mathlib.Core.Path.{◌≡◌, refl, sym, ap}
 use mathlib.Core.Bool.{Bool, true, false, not}
@@ -17,8 +17,7 @@ use Rattle.model.specs.declared.Register.{Register}
 use Rattle.model.specs.declared.Register.TheVariants.{Ctlr, Iidr, Typer, Cbaser, Cwriter, Creadr, Baser, Reserved}
 use Rattle.model.specs.declared.RegisterWrite.{RegisterWrite}
 use Rattle.model.specs.declared.Refusal.TheVariants.{BaseZero}
-use Rattle.model.specs.declared.Verdict.{Verdict}
-use Rattle.model.specs.declared.Verdict.TheVariants.{Accepted, Refused}
+use Rattle.model.specs.Answer.{Verdict}
 use Rattle.model.specs.Choose.{◌or◌then◌}
 use Rattle.model.specs.With.{with_writer}
 use Rattle.model.specs.Profile.{is_strict}
@@ -78,8 +77,8 @@ module _ (k : ItsConfig) (s : ItsRegisters) (m : ℕ) (there : m < length s.base
   stored_kept value Reserved = unchanged _
 
   by_verdict : (v : Verdict) (value : ℕ) (n : Register) → Keeps (if_accepted v (write_register k s value n) (refusing s 0))
-  by_verdict Accepted value n = stored_kept value n
-  by_verdict (Refused r) value n = unchanged _
+  by_verdict (Ok _) value n = stored_kept value n
+  by_verdict (Err r) value n = unchanged _
 
 pub BASER_read_only : (w : Window) (row : List ItsAction) (u : ItsState) → sound_unit u ≡ true → (offset width value m : ℕ) → m < length u.registers.basers →
     ReadOnlyBASER (held u (BASER m)) (held (write w row u offset width value).written.unit (BASER m))

@@ -1,13 +1,12 @@
 -- Decoding is Arm's: for each opcode the model's `decode` gives the command with Arm's field values, and every other opcode is unknown.
 -- Assumes nothing.
+use Rattle.std.specs.Prelude.{Err, None}
 use Prim.Native.Nat.{ℕ, ◌^◌, ◌<◌}
 use native.Mathlib.Omega.{arith}
 use mathlib.Core.Path.{◌≡◌, refl, ◌∙◌}
 use mathlib.Core.Bool.{Bool, true, ◌&&◌, not}
 use mathlib.Core.List.{List, [], ◌∷◌}
-use mathlib.Core.Option.{none}
 use lib.Dec.{eqb}
-use Rattle.model.specs.declared.Decoded.TheVariants.{Unknown}
 use Rattle.model.specs.Choose.{when_found, is_found}
 use Rattle.model.specs.Arm.{◌from◌, Opcode, RDbase, op_MOVI, op_INT, op_CLEAR, op_SYNC, op_MAPD, op_MAPC, op_MAPTI, op_MAPI, op_INV, op_INVALL, op_DISCARD}
 use Rattle.model.specs.Decode.{RDbase_low, decode}
@@ -40,7 +39,7 @@ module _ (ws : List ℕ) where
       (λ h. rw (h, c.R36_no_MOVALL))))))))))))))))))))))
 
   -- an opcode that is no command's is unknown to both. R37: among them those of virtual interrupts
-  pub unknown_as_arm : Decodable ws → command_in ws ≡ none → decode ws ≡ Unknown (Opcode from ws)
+  pub unknown_as_arm : Decodable ws → command_in ws ≡ None → decode ws ≡ Err (record { 0 = Opcode from ws })
   unknown_as_arm c h = decode_as_arm c ∙ rw h
 
 -- the opcodes of virtual interrupts, GICv4

@@ -1,16 +1,14 @@
 -- Without its condition the agreement fails: the departure of each entry, computed on the smallest case.
 -- Assumes nothing.
+use Rattle.std.specs.Prelude.{Err, None, Ok, Some}
 use Prim.Native.Nat.{ℕ, zero, suc}
 use mathlib.Core.Path.{◌≡◌, refl}
 use mathlib.Core.Bool.{true, false}
 use mathlib.Core.List.{List, [], ◌∷◌, ◌++◌}
-use mathlib.Core.Option.{none, some}
 use Rattle.model.specs.declared.ItsState.{ItsState}
 use Rattle.model.specs.declared.Command.TheVariants.{Mapc}
-use Rattle.model.specs.declared.Decoded.TheVariants.{Known, Unknown}
 use Rattle.model.specs.declared.Refusal.TheVariants.{BaseZero, WriterRefused}
-use Rattle.model.specs.declared.WriteAnswer.TheVariants.{NotTaken}
-use Rattle.model.specs.declared.TranslateAnswer.TheVariants.{Delivered}
+use Rattle.model.specs.Answer.{write_refused}
 use Rattle.model.specs.Choose.{is_found}
 use Rattle.model.specs.Arm.{◌of◌, ◌in_place◌, BASER_Physical_Address, CTLR_Quiescent, CREADR_Stalled, GITS_CTLR, GITS_CBASER, GITS_CWRITER, GITS_BASER}
 use Rattle.model.specs.Keys.{delivery}
@@ -70,14 +68,14 @@ pub example_as_arm : arm_of (unit example) ≡ arms example
 example_as_arm = fresh_as_arm (with_limit 65535) all example example_under
 
 -- both translate it
-pub example_agrees : (translate (unit example) (dev 5) (ev 9) ≡ Delivered (delivery (lpi 8200) (cpu 1)))
-    × (translation true true (arms example) 5 9 ≡ some (record { LPI = 8200; processor = 1 }))
+pub example_agrees : (translate (unit example) (dev 5) (ev 9) ≡ Ok (delivery (lpi 8200) (cpu 1)))
+    × (translation true true (arms example) 5 9 ≡ Some (record { LPI = 8200; processor = 1 }))
 unfolding shown
 example_agrees = (refl, refl)
 
 -- R01, the cause of the misfiled visits: device 5 is mapped again, and the unit still gives its old LPI where Arm's unit has none
-pub R01_departs : (translate (unit (example ++ MAPD 5 3 0x501000 true ∷ [])) (dev 5) (ev 9) ≡ Delivered (delivery (lpi 8200) (cpu 1)))
-    × (translation true true (arms (example ++ MAPD 5 3 0x501000 true ∷ [])) 5 9 ≡ none)
+pub R01_departs : (translate (unit (example ++ MAPD 5 3 0x501000 true ∷ [])) (dev 5) (ev 9) ≡ Ok (delivery (lpi 8200) (cpu 1)))
+    × (translation true true (arms (example ++ MAPD 5 3 0x501000 true ∷ [])) 5 9 ≡ None)
 unfolding shown
 R01_departs = (refl, refl)
 
@@ -91,7 +89,7 @@ unfolding shown
 R02_departs = (refl, refl, refl, refl, refl)
 
 -- R03: the unit was never switched on
-pub R03_departs : (translate (unit example) (dev 5) (ev 9) ≡ Delivered (delivery (lpi 8200) (cpu 1))) × (translation false true (arms example) 5 9 ≡ none)
+pub R03_departs : (translate (unit example) (dev 5) (ev 9) ≡ Ok (delivery (lpi 8200) (cpu 1))) × (translation false true (arms example) 5 9 ≡ None)
 unfolding shown
 R03_departs = (refl, refl)
 
@@ -108,8 +106,8 @@ abbrev beyond : List ArmCommand
 beyond = MAPD 65536 3 0 true ∷ MAPD 5 16 0 true ∷ MAPC 2 1 true ∷ MAPTI 65536 9 8200 2 ∷ MAPTI 5 65536 8201 2 ∷ []
 
 pub messages_beyond_depart :
-    ((translate (unit beyond) (dev 65536) (ev 9) ≡ Delivered (delivery (lpi 8200) (cpu 1))) × (translation true true (arms beyond) 65536 9 ≡ none))
-    × ((translate (unit beyond) (dev 5) (ev 65536) ≡ Delivered (delivery (lpi 8201) (cpu 1))) × (translation true true (arms beyond) 5 65536 ≡ none))
+    ((translate (unit beyond) (dev 65536) (ev 9) ≡ Ok (delivery (lpi 8200) (cpu 1))) × (translation true true (arms beyond) 65536 9 ≡ None))
+    × ((translate (unit beyond) (dev 5) (ev 65536) ≡ Ok (delivery (lpi 8201) (cpu 1))) × (translation true true (arms beyond) 5 65536 ≡ None))
 unfolding shown
 messages_beyond_depart = ((refl, refl), (refl, refl))
 
@@ -121,8 +119,8 @@ R10_agrees = ((refl, refl), (refl, refl))
 
 -- R48: (5, 9) is mapped before its collection, which Arm allows; a MAPC then makes it whole
 pub R48_departs : (takes (unit (MAPD 5 3 0 true ∷ [])) (MAPTI 5 9 8200 2) ≡ false) × (no_error said (arms (MAPD 5 3 0 true ∷ [])) (MAPTI 5 9 8200 2) ≡ true)
-    × (translation true true (arms (MAPD 5 3 0 true ∷ MAPTI 5 9 8200 2 ∷ [])) 5 9 ≡ none)
-    × (translation true true (arms (MAPD 5 3 0 true ∷ MAPTI 5 9 8200 2 ∷ MAPC 2 1 true ∷ [])) 5 9 ≡ some (record { LPI = 8200; processor = 1 }))
+    × (translation true true (arms (MAPD 5 3 0 true ∷ MAPTI 5 9 8200 2 ∷ [])) 5 9 ≡ None)
+    × (translation true true (arms (MAPD 5 3 0 true ∷ MAPTI 5 9 8200 2 ∷ MAPC 2 1 true ∷ [])) 5 9 ≡ Some (record { LPI = 8200; processor = 1 }))
 unfolding shown
 R48_departs = (refl, refl, refl, refl)
 
@@ -131,14 +129,14 @@ R48_departs = (refl, refl, refl, refl)
 abbrev moved : ItsState
 moved = after (unit example) GITS_BASER 8 0x8000000060000000
 
-pub R46_departs : (BASER_Physical_Address in_place held moved (BASER 0) ≡ 0x60000000) × (translate moved (dev 5) (ev 9) ≡ Delivered (delivery (lpi 8200) (cpu 1)))
-    × (translation true true nothing 5 9 ≡ none)
+pub R46_departs : (BASER_Physical_Address in_place held moved (BASER 0) ≡ 0x60000000) × (translate moved (dev 5) (ev 9) ≡ Ok (delivery (lpi 8200) (cpu 1)))
+    × (translation true true nothing 5 9 ≡ None)
 unfolding shown
 R46_departs = (refl, refl, refl)
 
 -- R47: no table was given, and the message is translated
-pub R47_departs : (tables_given (unit example) ≡ false) × (translate (unit example) (dev 5) (ev 9) ≡ Delivered (delivery (lpi 8200) (cpu 1)))
-    × (translation true false (arms example) 5 9 ≡ none)
+pub R47_departs : (tables_given (unit example) ≡ false) × (translate (unit example) (dev 5) (ev 9) ≡ Ok (delivery (lpi 8200) (cpu 1)))
+    × (translation true false (arms example) 5 9 ≡ None)
 unfolding shown
 R47_departs = (refl, refl, refl)
 
@@ -150,13 +148,13 @@ unfolding shown
 tables_depart = ((refl, refl), (refl, refl))
 
 -- R21: processor 65537 is taken for processor 1
-pub R21_departs : (decode (9 ∷ 0 ∷ 0x8000000100010002 ∷ 0 ∷ []) ≡ Known (Mapc (col 2) (cpu 1) true))
-    × (command_in (9 ∷ 0 ∷ 0x8000000100010002 ∷ 0 ∷ []) ≡ some (MAPC 2 65537 true))
+pub R21_departs : (decode (9 ∷ 0 ∷ 0x8000000100010002 ∷ 0 ∷ []) ≡ Ok (Mapc (col 2) (cpu 1) true))
+    × (command_in (9 ∷ 0 ∷ 0x8000000100010002 ∷ 0 ∷ []) ≡ Some (MAPC 2 65537 true))
 unfolding shown command_in
 R21_departs = (refl, refl)
 
 -- R36: MOVALL is unknown
-pub R36_departs : (decode (14 ∷ 0 ∷ 0 ∷ 0x10000 ∷ []) ≡ Unknown 14) × (command_in (14 ∷ 0 ∷ 0 ∷ 0x10000 ∷ []) ≡ some (MOVALL 0 1))
+pub R36_departs : (decode (14 ∷ 0 ∷ 0 ∷ 0x10000 ∷ []) ≡ Err (record { 0 = 14 })) × (command_in (14 ∷ 0 ∷ 0 ∷ 0x10000 ∷ []) ≡ Some (MOVALL 0 1))
 unfolding shown command_in
 R36_departs = (refl, refl)
 
@@ -185,11 +183,11 @@ pub R29_departs : (held ready CWRITER ≡ 32) × (held (writing ready GITS_CBASE
 unfolding shown
 R29_departs = (refl, refl)
 
-pub R30_departs : (writing (unit []) GITS_CBASER 0x8000000000000000).answer ≡ NotTaken BaseZero 0 0 0 0
+pub R30_departs : (writing (unit []) GITS_CBASER 0x8000000000000000).answer ≡ write_refused BaseZero 0 0 0 0
 unfolding shown
 R30_departs = refl
 
-pub R14_departs : (writing ready GITS_CWRITER 65).answer ≡ NotTaken WriterRefused 0 65 0 0
+pub R14_departs : (writing ready GITS_CWRITER 65).answer ≡ write_refused WriterRefused 0 65 0 0
 unfolding shown
 R14_departs = refl
 

@@ -1,10 +1,9 @@
 -- What an accepted command does to the unit's mappings is what Arm says that it does, under the conditions of specs/Conditions.antt.
 -- Assumes nothing.
-use Rattle.std.specs.Prelude.{if◌then◌else◌}
+use Rattle.std.specs.Prelude.{if◌then◌else◌, None, Option, Some}
 use Prim.Native.Nat.{ℕ, ◌+◌}
 use mathlib.Core.Path.{◌≡◌, refl, sym, ap, ◌∙◌}
 use mathlib.Core.Bool.{true, false, ◌&&◌}
-use mathlib.Core.Option.{Option, none, some}
 use lib.Dec.{eqb}
 use borrow.Author.Tests.{eqb-true}
 use Rattle.model.specs.declared.GicVcpuId.{GicVcpuId}
@@ -33,7 +32,7 @@ same m m' p q r = λ i. record { device = λ d. p d i; collection = λ c. q c i;
 -- The model's words for what a command says of a device, of a collection and of a pair, over plain numbers.
 
 abbrev numbered : Option GicVcpuId → Option ℕ
-numbered o = when_found o (λ p. some p.0)
+numbered o = when_found o (λ p. Some p.0)
 
 abbrev numbered_says : Says GicVcpuId → Says ℕ
 numbered_says (maps_it p) = maps_it p.0
@@ -41,13 +40,13 @@ numbered_says unmaps_it = unmaps_it
 numbered_says silent = silent
 
 abbrev as_interrupt : Option PairEntry → Option Interrupt
-as_interrupt o = when_found o (λ x. some (interrupt x.lpi.0 x.collection.0))
+as_interrupt o = when_found o (λ x. Some (interrupt x.lpi.0 x.collection.0))
 
 abbrev part_after : Part → Option Interrupt → Option Interrupt
-part_after (maps l c) o = some (interrupt l.0 c.0)
-part_after (moves c) o = when_found o (λ x. some (interrupt x.pINTID c.0))
-part_after ends o = none
-part_after (ends_in c) o = when_found o (λ x. if eqb x.ICID c.0 then none else some x)
+part_after (maps l c) o = Some (interrupt l.0 c.0)
+part_after (moves c) o = when_found o (λ x. Some (interrupt x.pINTID c.0))
+part_after ends o = None
+part_after (ends_in c) o = when_found o (λ x. if eqb x.ICID c.0 then None else Some x)
 part_after leaves o = o
 
 numbered_after : (s : Says GicVcpuId) (o : Option GicVcpuId) → numbered (after s o) ≡ after (numbered_says s) (numbered o)
@@ -57,20 +56,20 @@ numbered_after silent o = refl
 
 interrupt_after : (p : Part) (o : Option PairEntry) → as_interrupt (pair_after p o) ≡ part_after p (as_interrupt o)
 interrupt_after (maps l c) o = refl
-interrupt_after (moves c) none = refl
-interrupt_after (moves c) (some x) = refl
+interrupt_after (moves c) None = refl
+interrupt_after (moves c) (Some x) = refl
 interrupt_after ends o = refl
-interrupt_after (ends_in c) none = refl
-interrupt_after (ends_in c) (some x) = cases (eqb x.collection.0 c.0) (λ s. rw s) (λ s. rw s)
+interrupt_after (ends_in c) None = refl
+interrupt_after (ends_in c) (Some x) = cases (eqb x.collection.0 c.0) (λ s. rw s) (λ s. rw s)
 interrupt_after leaves o = refl
 
-target_seen : (o : Option ItsCollection) → when_found o (λ r. some r.target.0) ≡ numbered (when_found o (λ r. some r.target))
-target_seen none = refl
-target_seen (some r) = refl
+target_seen : (o : Option ItsCollection) → when_found o (λ r. Some r.target.0) ≡ numbered (when_found o (λ r. Some r.target))
+target_seen None = refl
+target_seen (Some r) = refl
 
-entry_seen : (o : Option Translation) → when_found o (λ r. some (interrupt r.lpi.0 r.collection.0)) ≡ as_interrupt (when_found o (λ r. some (entry_of r)))
-entry_seen none = refl
-entry_seen (some r) = refl
+entry_seen : (o : Option Translation) → when_found o (λ r. Some (interrupt r.lpi.0 r.collection.0)) ≡ as_interrupt (when_found o (λ r. Some (entry_of r)))
+entry_seen None = refl
+entry_seen (Some r) = refl
 
 module _ (u : ItsState) (y : Command) (ok : accepts u y ≡ true) where
   device_after : (d : ℕ) → (arm_of (effect u y)).device d ≡ after (of_device_says (dev d) y) ((arm_of u).device d)
@@ -103,20 +102,20 @@ one_event p d e f d' e' =
     (λ h. rw h)
 
 -- R09: a collection that no event names ends none
-unused : (c : ℕ) (o : Option Interrupt) → ((x : Interrupt) → o ≡ some x → eqb x.ICID c ≡ false) → when_found o (λ x. if eqb x.ICID c then none else some x) ≡ o
-unused c none h = refl
-unused c (some x) h = rw (h x refl)
+unused : (c : ℕ) (o : Option Interrupt) → ((x : Interrupt) → o ≡ Some x → eqb x.ICID c ≡ false) → when_found o (λ x. if eqb x.ICID c then None else Some x) ≡ o
+unused c None h = refl
+unused c (Some x) h = rw (h x refl)
 
 module _ (u : ItsState) (t : Tables) where
   -- R01: of a device without events there is nothing to drop
-  no_events : (d bits : ℕ) → ((e : ℕ) → (arm_of u).event d e ≡ none) → Clean u (Mapd (dev d) bits true)
+  no_events : (d bits : ℕ) → ((e : ℕ) → (arm_of u).event d e ≡ None) → Clean u (Mapd (dev d) bits true)
   no_events d bits new d' bits' m n e =
       let same : dev d ≡ d' = cc in
       rw (← same) (seen (translation_of u (dev d) e) (new e.0))
     where
-      seen : (o : Option Translation) → when_found o (λ r. some (interrupt r.lpi.0 r.collection.0)) ≡ none → when_found o (λ r. some (entry_of r)) ≡ none
-      seen none q = refl
-      seen (some r) q = never true refl (cc)
+      seen : (o : Option Translation) → when_found o (λ r. Some (interrupt r.lpi.0 r.collection.0)) ≡ None → when_found o (λ r. Some (entry_of r)) ≡ None
+      seen None q = refl
+      seen (Some r) q = never true refl (cc)
 
   pub effect_as_arm : (x : ArmCommand) → Under u t x → takes u x ≡ true → arm_of (effect_on u x) ≡ does x (arm_of u)
   unfolding of_device_says of_collection_says part_in

@@ -1,13 +1,12 @@
 -- The unit refuses a command exactly where Arm calls it an error, under the conditions of specs/Conditions.antt.
 -- Assumes nothing.
+use Rattle.std.specs.Prelude.{Err, None, Ok, Option, Some}
 use Prim.Native.Nat.{ℕ}
 use mathlib.Core.Path.{◌≡◌, refl, sym, ap, ◌∙◌}
 use mathlib.Core.Bool.{Bool, true, false, ◌&&◌}
-use mathlib.Core.Option.{Option, none, some}
 use Rattle.model.specs.declared.ItsDevice.{ItsDevice}
 use Rattle.model.specs.declared.ItsState.{ItsState}
 use Rattle.model.specs.declared.Refusal.{Refusal}
-use Rattle.model.specs.declared.Verdict.TheVariants.{Accepted, Refused}
 use Rattle.model.specs.Choose.{◌or◌then◌, when_found, if_found, is_found}
 use Rattle.model.specs.Config.{listed}
 use Rattle.model.specs.Step.{device_of, collection_of, translation_of, delivery_in, lpi_in_range, event_below, device_mapped, event_fits, collection_mapped, pair_mapped, pair_translates, check_mapping, too_large, is_accepted}
@@ -20,32 +19,32 @@ use Rattle.arm_agreement.specs.Conditions.{WellMapped, ADevice, AnEvent, ACollec
 
 -- the checks of MAPTI and MAPI, in the unit's order and as one test
 mapping_checks : (l d e c : Bool) (r s t v : Refusal) → (e ≡ true → d ≡ true) →
-    is_accepted (l or Refused r then d or Refused s then e or Refused t then c or Refused v then Accepted) ≡ (e && (l && c))
+    is_accepted (l or Err r then d or Err s then e or Err t then c or Err v then Ok tt) ≡ (e && (l && c))
 mapping_checks l d true c r s t v h =
     rw (h refl) (cases l (λ k. rw k (cases c (λ j. rw j) (λ j. rw j))) (λ k. rw k))
 mapping_checks l d false c r s t v h = cases l (λ k. rw k (cases d (λ j. rw j) (λ j. rw j))) (λ k. rw k)
 
 -- one check
-one_check : (b : Bool) (r : Refusal) → is_accepted (b or Refused r then Accepted) ≡ b
+one_check : (b : Bool) (r : Refusal) → is_accepted (b or Err r then Ok tt) ≡ b
 one_check true r = refl
 one_check false r = refl
 
-two_checks : (a b : Bool) (r s : Refusal) → is_accepted (a or Refused r then b or Refused s then Accepted) ≡ (b && a)
+two_checks : (a b : Bool) (r s : Refusal) → is_accepted (a or Err r then b or Err s then Ok tt) ≡ (b && a)
 two_checks true true r s = refl
 two_checks true false r s = refl
 two_checks false true r s = refl
 two_checks false false r s = refl
 
 -- a test that holds wherever something is found
-and_found : {A : Type 0} (o : Option A) (b : Bool) → ((a : A) → o ≡ some a → b ≡ true) → (b && is_found o) ≡ is_found o
-and_found none b h = cases b (λ e. rw e) (λ e. rw e)
-and_found (some a) b h = rw (h a refl)
+and_found : {A : Type 0} (o : Option A) (b : Bool) → ((a : A) → o ≡ Some a → b ≡ true) → (b && is_found o) ≡ is_found o
+and_found None b h = cases b (λ e. rw e) (λ e. rw e)
+and_found (Some a) b h = rw (h a refl)
 
 -- what is found of a thing that was found
-both_found : {A B C : Type 0} (o : Option A) (g : A → Option B) (f : A → B → C) → ((a : A) → o ≡ some a → is_found (g a) ≡ true) →
-    is_found (when_found o (λ a. when_found (g a) (λ b. some (f a b)))) ≡ is_found o
-both_found none g f h = refl
-both_found (some a) g f h = found_when (g a) (f a) ∙ h a refl
+both_found : {A B C : Type 0} (o : Option A) (g : A → Option B) (f : A → B → C) → ((a : A) → o ≡ Some a → is_found (g a) ≡ true) →
+    is_found (when_found o (λ a. when_found (g a) (λ b. Some (f a b)))) ≡ is_found o
+both_found None g f h = refl
+both_found (Some a) g f h = found_when (g a) (f a) ∙ h a refl
 
 module _ (u : ItsState) (t : Tables) where
   abbrev now : Mappings
@@ -60,9 +59,9 @@ module _ (u : ItsState) (t : Tables) where
   pair_seen : (d e : ℕ) → is_found (now.event d e) ≡ pair_mapped u (dev d) (ev e)
   pair_seen d e = found_when (translation_of u (dev d) (ev e)) _
 
-  size_seen : (o : Option ItsDevice) (e : ℕ) → if_found (when_found o (λ r. some r.event_bits)) (λ bits. event_below bits (ev e)) false ≡ if_found o (λ r. event_below r.event_bits (ev e)) false
-  size_seen none e = refl
-  size_seen (some r) e = refl
+  size_seen : (o : Option ItsDevice) (e : ℕ) → if_found (when_found o (λ r. Some r.event_bits)) (λ bits. event_below bits (ev e)) false ≡ if_found o (λ r. event_below r.event_bits (ev e)) false
+  size_seen None e = refl
+  size_seen (Some r) e = refl
 
   event_seen : (d e : ℕ) → event_of now d e ≡ event_fits u (dev d) (ev e)
   unfolding event_below
@@ -70,8 +69,8 @@ module _ (u : ItsState) (t : Tables) where
 
   -- an event that fits has a mapped device
   fits_mapped : (o : Option ItsDevice) (f : ItsDevice → Bool) → if_found o f false ≡ true → is_found o ≡ true
-  fits_mapped none f h = h
-  fits_mapped (some r) f h = refl
+  fits_mapped None f h = h
+  fits_mapped (Some r) f h = refl
 
   announced_collection : (c : ℕ) → ACollection u t c → names_collection said now c ≡ collection_mapped u (col c)
   announced_collection c k = rw k.R20_in_the_table (collection_seen c)

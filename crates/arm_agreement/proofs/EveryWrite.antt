@@ -12,7 +12,7 @@ use Rattle.model.specs.declared.ItsRegisters.{ItsRegisters}
 use Rattle.model.specs.declared.ItsState.{ItsState}
 use Rattle.model.specs.declared.ItsAction.{ItsAction}
 use Rattle.model.specs.declared.RegisterWrite.{RegisterWrite}
-use Rattle.model.specs.declared.WriteAnswer.TheVariants.{Taken}
+use Rattle.model.specs.Answer.{write_taken}
 use Rattle.model.specs.Arm.{◌of◌, CBASER_Valid}
 use Rattle.model.specs.With.{with_registers, with_stalled, with_reader, unit_stalled}
 use Rattle.model.specs.Config.{sound_unit}
@@ -20,6 +20,7 @@ use Rattle.model.specs.Queue.{Window, run, waiting, held, may_run}
 use Rattle.model.specs.Register.{is_stalled}
 use Rattle.model.specs.Entry.{Outcome, stores, write}
 use Rattle.model.specs.Passed.{ring_offset, commands_passed, CarriedOut}
+use Rattle.model.specs.Writing.{then_runs}
 use Rattle.model.proofs.Cases.{never}
 use Rattle.model.proofs.Ring.{reader_below}
 use Rattle.model.proofs.Waiting.{waiting_all}
@@ -45,7 +46,7 @@ pub record Comes (w : Window) (u : ItsState) (s : RegisterWrite) (o : Outcome) :
   -- a disabled unit runs nothing
   pub disabled : s.registers.enabled ≡ false → done_by o ≡ 0
   -- a write that is taken and lets an enabled unit run whose ring is valid, and which is not stalled, leaves no command waiting
-  pub taken : (done actions : ℕ) → o.written.answer ≡ Taken done actions → s.runs ≡ true → s.registers.enabled ≡ true →
+  pub taken : (done actions : ℕ) → o.written.answer ≡ write_taken done actions → then_runs s ≡ true → s.registers.enabled ≡ true →
       eqb (CBASER_Valid of u.registers.cbaser) 1 ≡ true → is_stalled u.config s.registers ≡ false → (unit_by o).registers.creadr ≡ s.registers.cwriter
 
 -- with bit 63 set, the queue of an enabled unit that is not stalled may run
@@ -54,8 +55,8 @@ unfolding may_run held
 may k r on valid clear = rw (on, valid, clear)
 
 module _ (w : Window) (row : List ItsAction) (u : ItsState) (offset width value : ℕ) where
-  to_writer : {s : RegisterWrite} {o : Outcome} → Way w row u offset width value s o → (done actions : ℕ) → o.written.answer ≡ Taken done actions →
-      s.runs ≡ true → s.registers.enabled ≡ true → eqb (CBASER_Valid of u.registers.cbaser) 1 ≡ true → is_stalled u.config s.registers ≡ false →
+  to_writer : {s : RegisterWrite} {o : Outcome} → Way w row u offset width value s o → (done actions : ℕ) → o.written.answer ≡ write_taken done actions →
+      then_runs s ≡ true → s.registers.enabled ≡ true → eqb (CBASER_Valid of u.registers.cbaser) 1 ≡ true → is_stalled u.config s.registers ≡ false →
       (unit_by o).registers.creadr ≡ s.registers.cwriter
   to_writer (checked why c) done actions t runs on valid clear = never true refl (sym runs)
   to_writer (no_base sound) done actions t runs on valid clear = never true refl (sym runs)

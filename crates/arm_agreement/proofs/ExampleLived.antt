@@ -1,13 +1,13 @@
 -- 01's example meets all the conditions, once the driver has given the two tables that Arm demands (R47; 01's example gives none): the two writes of
 -- BASER, the example's three, and the four commands in the window are such a life as LifeAsArm.antt speaks of. So the theorems there are not empty.
 -- Assumes nothing.
+use Rattle.std.specs.Prelude.{Some}
 use Prim.Native.Nat.{ℕ, zero, suc, ◌+◌, ◌<◌}
 use native.Mathlib.Omega.{arith}
 use mathlib.Core.Path.{◌≡◌, refl}
 use mathlib.Core.Bool.{true, false}
 use mathlib.Core.Logic.{inl, inr}
 use mathlib.Core.List.{List, [], ◌∷◌}
-use mathlib.Core.Option.{some}
 use lib.ListN.{replicate}
 use Rattle.model.specs.declared.ItsState.{ItsState}
 use Rattle.model.specs.declared.ItsAction.{ItsAction}
@@ -118,7 +118,7 @@ enable_under =
       commands = no_command_lem;
     }
 
-each_decodable : (m : ℕ) → m < 4 → (ws : List ℕ) → command_at window (command_place 0x8000000040000000 0 m) ≡ some ws → Decodable ws
+each_decodable : (m : ℕ) → m < 4 → (ws : List ℕ) → command_at window (command_place 0x8000000040000000 0 m) ≡ Some ws → Decodable ws
 unfolding shown
 each_decodable zero l ws h =
     let k : 0x500000008 ∷ 3 ∷ 0x8000000000000000 ∷ 0 ∷ [] ≡ ws = cc in rw (← k) (record { R21_processor_of_16_bits = λ e. omega arith; R36_no_MOVALL = refl })

@@ -2,10 +2,10 @@
 -- no event is mapped before its collection (R48).
 -- So a unit that started fresh is such a one as long as the conditions are met.
 -- Assumes nothing.
+use Rattle.std.specs.Prelude.{None, Option, Some}
 use Prim.Native.Nat.{ℕ}
 use mathlib.Core.Path.{◌≡◌, refl}
 use mathlib.Core.Bool.{true, false, ◌&&◌}
-use mathlib.Core.Option.{Option, none, some}
 use lib.Dec.{eqb}
 use borrow.Author.Tests.{eqb-true}
 use Rattle.model.specs.declared.ItsState.{ItsState}
@@ -19,7 +19,7 @@ use Rattle.arm_agreement.specs.Seen.{arm_of, Tables, announced_by}
 use Rattle.arm_agreement.specs.Conditions.{WellMapped, Under}
 
 -- something is not nothing
-not_none : {A P : Type 0} {a : A} → none ≡ some a → P
+not_none : {A P : Type 0} {a : A} → None ≡ Some a → P
 not_none h = never true refl (cc)
 
 pub kept_nothing : WellMapped nothing
@@ -29,11 +29,11 @@ kept_nothing = record { R02_within_its_Size = λ d e x h. not_none h; R09_in_a_c
 abbrev Backed : Mappings → ℕ → ℕ → Interrupt → Type 0
 Backed m d e x = (event_of m d e ≡ true) × (is_found (m.collection x.ICID) ≡ true)
 
-keeping : (m : Mappings) → ((d e : ℕ) (x : Interrupt) → m.event d e ≡ some x → Backed m d e x) → WellMapped m
+keeping : (m : Mappings) → ((d e : ℕ) (x : Interrupt) → m.event d e ≡ Some x → Backed m d e x) → WellMapped m
 keeping m f = record { R02_within_its_Size = λ d e x h. (f d e x h).0; R09_in_a_collection = λ d e x h. (f d e x h).1 }
 
 module _ (m : Mappings) (kept : WellMapped m) where
-  held : (d e : ℕ) (x : Interrupt) → m.event d e ≡ some x → Backed m d e x
+  held : (d e : ℕ) (x : Interrupt) → m.event d e ≡ Some x → Backed m d e x
   held d e x h = (kept.R02_within_its_Size d e x h, kept.R09_in_a_collection d e x h)
 
   -- MAPD
@@ -42,17 +42,17 @@ module _ (m : Mappings) (kept : WellMapped m) where
       keeping _ (λ d' e' x h. cases (eqb d d') (λ s. not_none (rw s at h)) (λ s. rw s (held d' e' x (rw s at h))))
 
   -- MAPC, valid
-  kept_collection : (c p : ℕ) → WellMapped (with_collection c (some p) m)
+  kept_collection : (c p : ℕ) → WellMapped (with_collection c (Some p) m)
   kept_collection c p =
       keeping _ (λ d e x h. ((held d e x h).0, cases (eqb c x.ICID) (λ s. rw s) (λ s. rw s (held d e x h).1)))
 
   -- MAPC, not valid
-  kept_without : (c : ℕ) → ((d e : ℕ) (x : Interrupt) → m.event d e ≡ some x → eqb x.ICID c ≡ false) → WellMapped (with_collection c none m)
+  kept_without : (c : ℕ) → ((d e : ℕ) (x : Interrupt) → m.event d e ≡ Some x → eqb x.ICID c ≡ false) → WellMapped (with_collection c None m)
   kept_without c unused =
       keeping _ (λ d e x h. ((held d e x h).0, rw (eqb_sym c x.ICID, unused d e x h) (held d e x h).1))
 
   -- MAPTI, MAPI, MOVI, DISCARD
-  kept_event : (d e : ℕ) (o : Option Interrupt) → ((x : Interrupt) → o ≡ some x → Backed m d e x) → WellMapped (with_event d e o m)
+  kept_event : (d e : ℕ) (o : Option Interrupt) → ((x : Interrupt) → o ≡ Some x → Backed m d e x) → WellMapped (with_event d e o m)
   kept_event d e o new =
       keeping _ (λ d' e' x h.
       cases (eqb d d')
@@ -71,16 +71,16 @@ module _ (a : Announced) (m : Mappings) where
 
   -- MAPTI and MAPI, of a mapped collection
   mapped : (d e l c : ℕ) → (names_event a m d e && (is_LPI a m l && a.collection_table c)) ≡ true → is_found (m.collection c) ≡ true →
-      (x : Interrupt) → some (interrupt l c) ≡ some x → Backed m d e x
+      (x : Interrupt) → Some (interrupt l c) ≡ Some x → Backed m d e x
   mapped d e l c ok there x h =
       let i : interrupt l c ≡ x = cc in
       rw (← i) (named_event d e (and_left (names_event a m d e) _ ok), there)
 
   -- MOVI
   moved : (d e c : ℕ) → (names_interrupt a m d e && (a.collection_table c && is_found (m.collection c))) ≡ true →
-      (o : Option Interrupt) (x : Interrupt) → when_found o (λ z. some (interrupt z.pINTID c)) ≡ some x → Backed m d e x
-  moved d e c ok none x h = not_none h
-  moved d e c ok (some z) x h =
+      (o : Option Interrupt) (x : Interrupt) → when_found o (λ z. Some (interrupt z.pINTID c)) ≡ Some x → Backed m d e x
+  moved d e c ok None x h = not_none h
+  moved d e c ok (Some z) x h =
       let i : interrupt z.pINTID c ≡ x = cc in
       rw (← i) (named_interrupt d e (and_left (names_interrupt a m d e) _ ok), and_right (a.collection_table c) _ (and_right (names_interrupt a m d e) _ ok))
 
@@ -93,7 +93,7 @@ module _ (u : ItsState) (t : Tables) (kept : WellMapped (arm_of u)) where
 
   kept_does : (x : ArmCommand) → Under u t x → no_error said now x ≡ true → WellMapped (does x now)
   kept_does (MAPD d size itt true) k ok = kept_device now kept d _
-  kept_does (MAPD d size itt false) k ok = kept_device now kept d none
+  kept_does (MAPD d size itt false) k ok = kept_device now kept d None
   kept_does (MAPC c p true) k ok = kept_collection now kept c p
   kept_does (MAPC c p false) k ok = kept_without now kept c k.R09_unused
   kept_does (MAPTI d e l c) k ok = kept_event now kept d e _ (mapped said now d e l c ok k.R48_collection_mapped)
@@ -101,7 +101,7 @@ module _ (u : ItsState) (t : Tables) (kept : WellMapped (arm_of u)) where
   kept_does (MOVI d e c) k ok = kept_event now kept d e _ (moved said now d e c ok (now.event d e))
   kept_does (INT d e) k ok = kept
   kept_does (CLEAR d e) k ok = kept
-  kept_does (DISCARD d e) k ok = kept_event now kept d e none (λ x h. not_none h)
+  kept_does (DISCARD d e) k ok = kept_event now kept d e None (λ x h. not_none h)
   kept_does (INV d e) k ok = kept
   kept_does (INVALL c) k ok = kept
   kept_does (SYNC p) k ok = kept

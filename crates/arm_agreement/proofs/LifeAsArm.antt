@@ -1,12 +1,12 @@
 -- FROM CONFIGURATION ON. Whatever writes a unit has had since it was configured, its mappings are Arm's, and an enabled one answers every message as
 -- Arm does: as long as each write met its conditions.
 -- Assumes nothing.
+use Rattle.std.specs.Prelude.{Ok}
 use Prim.Native.Nat.{ℕ}
 use mathlib.Core.Path.{◌≡◌, refl, ap, ap₂, ◌∙◌}
 use mathlib.Core.Bool.{true}
 use Rattle.model.specs.declared.ItsConfig.{ItsConfig}
 use Rattle.model.specs.declared.ItsState.{ItsState}
-use Rattle.model.specs.declared.Verdict.TheVariants.{Accepted}
 use Rattle.model.specs.Config.{sound_config, sound_ring, sound_unit}
 use Rattle.model.specs.Entry.{configure, translate}
 use Rattle.model.proofs.Cases.{cases, never}
@@ -26,7 +26,7 @@ pub record Lives (k : ItsConfig) (u : ItsState) (m : Mappings) : Type 0 where
   pub kept : WellMapped (arm_of u)
 
 -- an accepted configuration gives a fresh unit
-fresh : (k : ItsConfig) → (configure k).verdict ≡ Accepted → Lives k (configure k).unit nothing
+fresh : (k : ItsConfig) → (configure k).verdict ≡ Ok tt → Lives k (configure k).unit nothing
 unfolding configure sound_ring
 fresh k ok =
     cases (sound_config k)

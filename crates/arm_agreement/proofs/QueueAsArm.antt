@@ -1,12 +1,12 @@
 -- THE QUEUE. A write that lets commands run does to the mappings what Arm does for the commands that it fetches from the ring, under the
 -- conditions of each: decoding, effects and errors together.
 -- Assumes nothing.
+use Rattle.std.specs.Prelude.{None, Option, Some}
 use Prim.Native.Nat.{ℕ, zero, suc}
 use native.Mathlib.Omega.{arith}
 use mathlib.Core.Path.{◌≡◌, refl, ap, ◌∙◌}
 use mathlib.Core.Bool.{true, false}
 use mathlib.Core.List.{List, [], ◌∷◌, ◌++◌}
-use mathlib.Core.Option.{Option, none, some}
 use Rattle.model.specs.declared.ItsRegisters.{ItsRegisters}
 use Rattle.model.specs.declared.ItsState.{ItsState}
 use Rattle.model.specs.declared.ItsAction.{ItsAction}
@@ -34,12 +34,12 @@ use Rattle.arm_agreement.proofs.AsArm.{step_as_arm}
 -- What is fetched is what the model reads.
 
 known_as : (opcode : ℕ) (o : Option Command) → if_known (as_decoded opcode o) ≡ o
-known_as opcode none = refl
-known_as opcode (some x) = refl
+known_as opcode None = refl
+known_as opcode (Some x) = refl
 
-read_as : (o : Option (List ℕ)) → ((ws : List ℕ) → o ≡ some ws → Decodable ws) → when_found o (λ ws. if_known (decode ws)) ≡ when_found (when_found o command_in) as_command
-read_as none c = refl
-read_as (some ws) c = ap if_known (decode_as_arm ws (c ws refl)) ∙ known_as _ (when_found (command_in ws) as_command)
+read_as : (o : Option (List ℕ)) → ((ws : List ℕ) → o ≡ Some ws → Decodable ws) → when_found o (λ ws. if_known (decode ws)) ≡ when_found (when_found o command_in) as_command
+read_as None c = refl
+read_as (Some ws) c = ap if_known (decode_as_arm ws (c ws refl)) ∙ known_as _ (when_found (command_in ws) as_command)
 
 -- the commands that the unit knows
 abbrev commands_of : List ArmCommand → List Command
@@ -47,8 +47,8 @@ commands_of [] = []
 commands_of (x ∷ xs) = list_of (as_command x) ++ commands_of xs
 
 first_of : (o : Option ArmCommand) (xs : List ArmCommand) → list_of (when_found o as_command) ++ commands_of xs ≡ commands_of (list_of o ++ xs)
-first_of none xs = refl
-first_of (some x) xs = refl
+first_of None xs = refl
+first_of (Some x) xs = refl
 
 module _ (w : Window) (r : ItsRegisters) where
   passed_as : (n : ℕ) → AllDecodable w r n → commands_passed w r n ≡ commands_of (fetches (command_at w) r.cbaser r.creadr n)
@@ -104,15 +104,15 @@ module _ (t : Tables) (u : ItsState) (kept : WellMapped (arm_of u)) where
       }
 
   carried_further : (xs : List ArmCommand) (m : ItsState) → Led xs m → (x : ArmCommand) → Under (unit_past_lem u xs) t x → (v : ItsState) (y : Command) →
-      as_command x ≡ some y → accepts m y ≡ true → v ≡ carry_out m y → Led (x ∷ xs) v
+      as_command x ≡ Some y → accepts m y ≡ true → v ≡ carry_out m y → Led (x ∷ xs) v
   carried_further xs m l x k v y q ok led =
       let (same-mappings, same_config) = carried_step m y ok in
       one_further xs m l x k v (rw (q, led, ← l.same)) (rw led same_config) (rw (q, led) same-mappings)
 
   further : (xs : List ArmCommand) → ((m : ItsState) (handed : List ItsAction) → CarriedOut u (commands_of xs) handed m → Led xs m) → (x : ArmCommand) → Under (unit_past_lem u xs) t x → (v : ItsState) →
       (o : Option Command) → as_command x ≡ o → (handed : List ItsAction) → CarriedOut u (list_of o ++ commands_of xs) handed v → Led (x ∷ xs) v
-  further xs f x k v none q handed c = let l = f v handed c in one_further xs v l x k v (rw q l.same) refl (rw q)
-  further xs f x k v (some y) q handed c =
+  further xs f x k v None q handed c = let l = f v handed c in one_further xs v l x k v (rw q l.same) refl (rw q)
+  further xs f x k v (Some y) q handed c =
       let z = last_of u c y (commands_of xs) refl in
       carried_further xs z.before (f z.before z.handed z.earlier) x k v y q z.accepted z.led
 

@@ -1,6 +1,7 @@
 -- READS. A sound unit takes every read that Arm's registers take, and answers the part of the register that Arm says; and each field of each
 -- register holds what Arm says of it, under the conditions named.
 -- Assumes nothing.
+use Rattle.std.specs.Prelude.{Ok}
 use Prim.Native.Nat.{ℕ, zero, suc, ◌+◌, ◌-◌, ◌*◌, ◌%◌, ◌≤◌, ◌<◌, ◌^◌}
 use native.Mathlib.Omega.{arith}
 use mathlib.Core.Path.{◌≡◌, refl, sym, ap, ◌∙◌}
@@ -11,7 +12,6 @@ use borrow.Author.Tests.{leb-true, leb-false, ltb-true, le-leb, lt-leb, eqb-true
 use Rattle.model.specs.declared.ItsConfig.{ItsConfig}
 use Rattle.model.specs.declared.ItsRegisters.{ItsRegisters}
 use Rattle.model.specs.declared.ItsState.{ItsState}
-use Rattle.model.specs.declared.ReadAnswer.TheVariants.{Value}
 use Rattle.model.specs.Arm.{◌of◌, CTLR_Enabled, command_size, of_devices, of_collections, TYPER_Devbits, TYPER_ID_bits}
 use Rattle.model.specs.Config.{queue_base, queue_size, is_queue_offset, sizes_in01, sound_config, sound_ring, sound_unit, fresh_unit}
 use Rattle.model.specs.Register.{bits_needed, typer_value, is_stalled, read_part, read_of}
@@ -50,12 +50,12 @@ part_read u (BASER n) whole h = refl
 part_read u (BASER n) low h = let z : (256 + 8 * n) % 8 ≡ 0 = omega arith in rw z
 part_read u (BASER n) high h = let z : (256 + 8 * n + 4) % 8 ≡ 4 = omega arith in rw z
 
-pub read_as_arm : (u : ItsState) → sound_unit u ≡ true → (r : Reg) (p : Piece) → has r p ≡ true → read u (offset_of r p) (width_of r p) ≡ Value (part_of p (held u r))
+pub read_as_arm : (u : ItsState) → sound_unit u ≡ true → (r : Reg) (p : Piece) → has r p ≡ true → read u (offset_of r p) (width_of r p) ≡ Ok (part_of p (held u r))
 unfolding read_from check_read
 read_as_arm u sound r p h =
     let w = is_there r p h in
     rw (sound, access_accepted u sound (offset_of r p) (width_of r p) (ap (λ x. x.fits) w), ap (λ x. x.register) w)
-    (ap Value (part_read u r p h))
+    (ap Ok (part_read u r p h))
 
 -- The fields.
 

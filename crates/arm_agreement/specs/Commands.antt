@@ -1,7 +1,6 @@
 -- Arm's commands and how four doublewords are read as one: by docs/ARM.md's commands (F38 to F46) and the fields of Arm.antt alone.
 -- Assumes nothing.
-use Rattle.std.specs.Prelude.{ℕ, Bool, List, eqb, if◌then◌else◌}
-use Rattle.std.proofs.Math.Option.{Option, none, some}
+use Rattle.std.specs.Prelude.{ℕ, Bool, List, eqb, if◌then◌else◌, None, Option, Some}
 use Rattle.model.specs.Arm.{bits, CommandField, dw, ◌from◌, Opcode, DeviceID, EventID, Size, pINTID, ICID, ITT_addr, RDbase, «V», op_MOVI, op_INT, op_CLEAR, op_SYNC, op_MAPD, op_MAPC, op_MAPTI, op_MAPI, op_INV, op_INVALL, op_DISCARD}
 
 -- A command with the numbers of its fields. The virtual ones (GICv4) are unknown to a unit whose TYPER.Virtual is 0 (F11, F57).
@@ -43,16 +42,16 @@ is_valid ws = eqb («V» from ws) 1
 -- the command in four doublewords; none where the opcode is no command's
 unfoldable pub command_in : List ℕ → Option ArmCommand
 command_in ws =
-    if eqb (Opcode from ws) op_MAPD then some (MAPD (DeviceID from ws) (Size from ws) (ITT_addr from ws) (is_valid ws)) else
-    if eqb (Opcode from ws) op_MAPC then some (MAPC (ICID from ws) (RDbase from ws) (is_valid ws)) else
-    if eqb (Opcode from ws) op_MAPTI then some (MAPTI (DeviceID from ws) (EventID from ws) (pINTID from ws) (ICID from ws)) else
-    if eqb (Opcode from ws) op_MAPI then some (MAPI (DeviceID from ws) (EventID from ws) (ICID from ws)) else
-    if eqb (Opcode from ws) op_MOVI then some (MOVI (DeviceID from ws) (EventID from ws) (ICID from ws)) else
-    if eqb (Opcode from ws) op_INT then some (INT (DeviceID from ws) (EventID from ws)) else
-    if eqb (Opcode from ws) op_CLEAR then some (CLEAR (DeviceID from ws) (EventID from ws)) else
-    if eqb (Opcode from ws) op_DISCARD then some (DISCARD (DeviceID from ws) (EventID from ws)) else
-    if eqb (Opcode from ws) op_INV then some (INV (DeviceID from ws) (EventID from ws)) else
-    if eqb (Opcode from ws) op_INVALL then some (INVALL (ICID from ws)) else
-    if eqb (Opcode from ws) op_SYNC then some (SYNC (RDbase from ws)) else
-    if eqb (Opcode from ws) op_MOVALL then some (MOVALL (RDbase from ws) (RDbase2 from ws)) else
-    none
+    if eqb (Opcode from ws) op_MAPD then Some (MAPD (DeviceID from ws) (Size from ws) (ITT_addr from ws) (is_valid ws)) else
+    if eqb (Opcode from ws) op_MAPC then Some (MAPC (ICID from ws) (RDbase from ws) (is_valid ws)) else
+    if eqb (Opcode from ws) op_MAPTI then Some (MAPTI (DeviceID from ws) (EventID from ws) (pINTID from ws) (ICID from ws)) else
+    if eqb (Opcode from ws) op_MAPI then Some (MAPI (DeviceID from ws) (EventID from ws) (ICID from ws)) else
+    if eqb (Opcode from ws) op_MOVI then Some (MOVI (DeviceID from ws) (EventID from ws) (ICID from ws)) else
+    if eqb (Opcode from ws) op_INT then Some (INT (DeviceID from ws) (EventID from ws)) else
+    if eqb (Opcode from ws) op_CLEAR then Some (CLEAR (DeviceID from ws) (EventID from ws)) else
+    if eqb (Opcode from ws) op_DISCARD then Some (DISCARD (DeviceID from ws) (EventID from ws)) else
+    if eqb (Opcode from ws) op_INV then Some (INV (DeviceID from ws) (EventID from ws)) else
+    if eqb (Opcode from ws) op_INVALL then Some (INVALL (ICID from ws)) else
+    if eqb (Opcode from ws) op_SYNC then Some (SYNC (RDbase from ws)) else
+    if eqb (Opcode from ws) op_MOVALL then Some (MOVALL (RDbase from ws) (RDbase2 from ws)) else
+    None

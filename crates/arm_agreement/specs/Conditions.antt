@@ -1,8 +1,7 @@
 -- Under which conditions the unit does what Arm says. Each condition carries the number of the entry of docs/DIFFERENCES.md that it shuts out;
 -- where Arm leaves open what happens, it says so.
 -- Assumes nothing.
-use Rattle.std.specs.Prelude.{ℕ, ◌+◌, ◌*◌, ◌≤◌, ◌<◌, ◌^◌, ◌≡◌, Bool, true, false, List, length, leb, ltb, eqb}
-use Rattle.std.proofs.Math.Option.{none, some}
+use Rattle.std.specs.Prelude.{ℕ, ◌+◌, ◌*◌, ◌≤◌, ◌<◌, ◌^◌, ◌≡◌, Bool, true, false, List, length, leb, ltb, eqb, None, Some}
 use Rattle.model.specs.declared.ItsState.{ItsState}
 use Rattle.model.specs.declared.ItsAction.{ItsAction}
 use Rattle.model.specs.declared.Register.TheVariants.{Cbaser, Cwriter, Baser}
@@ -25,9 +24,9 @@ pub record Decodable (ws : List ℕ) : Type 0 where
 -- Of the mappings that are there: each mapped event lies within its device's Size, and its collection is mapped. Arm's commands keep that.
 pub record WellMapped (m : Mappings) : Type 0 where
   -- R02: a device mapped again with a smaller Size keeps its events beyond it; S12: a unit put together by hand
-  pub R02_within_its_Size : (d e : ℕ) (x : Interrupt) → m.event d e ≡ some x → event_of m d e ≡ true
+  pub R02_within_its_Size : (d e : ℕ) (x : Interrupt) → m.event d e ≡ Some x → event_of m d e ≡ true
   -- R09: the collection of a mapped event was unmapped; S12
-  pub R09_in_a_collection : (d e : ℕ) (x : Interrupt) → m.event d e ≡ some x → is_found (m.collection x.ICID) ≡ true
+  pub R09_in_a_collection : (d e : ℕ) (x : Interrupt) → m.event d e ≡ Some x → is_found (m.collection x.ICID) ≡ true
 
 module _ (u : ItsState) (t : Tables) where
   -- of a command's DeviceID
@@ -54,7 +53,7 @@ module _ (u : ItsState) (t : Tables) where
     -- R18: more EventID bits than ID_bits are accepted
     pub R18_announced : leb size (TYPER_ID_bits of typer_value u.config.lpi_limit) ≡ true
     -- R01: a device that is mapped again keeps its events. (That the ITT was cleared is assumed here: F47, R26)
-    pub R01_device_is_new : (e : ℕ) → (arm_of u).event d e ≡ none
+    pub R01_device_is_new : (e : ℕ) → (arm_of u).event d e ≡ None
     -- S01: at most 32 devices
     pub S01_room : room_for_device u (dev d) ≡ true
 
@@ -68,7 +67,7 @@ module _ (u : ItsState) (t : Tables) where
   pub record DropsCollection (c : ℕ) : Type 0 where
     pub of_collection : ACollection c
     -- R09: unmapping a collection in use drops its events; Arm leaves it open
-    pub R09_unused : (d e : ℕ) (x : Interrupt) → (arm_of u).event d e ≡ some x → eqb x.ICID c ≡ false
+    pub R09_unused : (d e : ℕ) (x : Interrupt) → (arm_of u).event d e ≡ Some x → eqb x.ICID c ≡ false
 
   -- MAPTI, MAPI
   pub record MapsEvent (d e c : ℕ) : Type 0 where
@@ -77,7 +76,7 @@ module _ (u : ItsState) (t : Tables) where
     -- R48: with a collection that is not mapped they are refused; by Arm they map the event, and its messages go nowhere until a MAPC
     pub R48_collection_mapped : is_found ((arm_of u).collection c) ≡ true
     -- R06: a second MAPTI of an event replaces the first; Arm leaves it open
-    pub R06_event_is_new : (arm_of u).event d e ≡ none
+    pub R06_event_is_new : (arm_of u).event d e ≡ None
     -- S01: at most 256 events. R07: two events may have one LPI, and need no condition
     pub S01_room : room_for_pair u (dev d) (ev e) ≡ true
 

@@ -1,8 +1,7 @@
 -- Arm's mappings, without tables and sizes: what a command does to them, when a command is an error, when Arm leaves open what happens, and how
 -- a message is translated. By the facts of docs/ARM.md (F01 and on) alone.
 -- Assumes nothing.
-use Rattle.std.specs.Prelude.{ℕ, ◌+◌, ◌^◌, Bool, true, false, ◌&&◌, leb, ltb, eqb, if◌then◌else◌}
-use Rattle.std.proofs.Math.Option.{Option, none, some}
+use Rattle.std.specs.Prelude.{ℕ, ◌+◌, ◌^◌, Bool, true, false, ◌&&◌, leb, ltb, eqb, if◌then◌else◌, None, Option, Some}
 use Rattle.model.specs.Choose.{when_found, if_found, is_found}
 use Rattle.model.specs.Arm.{◌of◌, TYPER_ID_bits, TYPER_Devbits, LPI_base}
 use Rattle.arm_agreement.specs.Commands.{ArmCommand, MAPD, MAPC, MAPTI, MAPI, MOVI, INT, CLEAR, DISCARD, INV, INVALL, SYNC, MOVALL}
@@ -44,11 +43,11 @@ put n v f k = if eqb n k then v else f k
 
 -- nothing is mapped
 abbrev pub nothing : Mappings
-nothing = record { device = λ d. none; collection = λ c. none; event = λ d e. none }
+nothing = record { device = λ d. None; collection = λ c. None; event = λ d e. None }
 
 -- MAPD: the device has these EventID bits, or is gone; its events are those of an ITT that was cleared, as software is told to, or gone: it has none (F47, F48)
 abbrev pub with_device : ℕ → Option ℕ → Mappings → Mappings
-with_device d o m = record { device = put d o m.device; collection = m.collection; event = put d (λ e. none) m.event }
+with_device d o m = record { device = put d o m.device; collection = m.collection; event = put d (λ e. None) m.event }
 
 -- MAPC: the collection has this processor, or is gone (F49, F50)
 abbrev pub with_collection : ℕ → Option ℕ → Mappings → Mappings
@@ -60,16 +59,16 @@ with_event d e o m = record { device = m.device; collection = m.collection; even
 
 -- What a command does to the mappings.
 abbrev pub does : ArmCommand → Mappings → Mappings
-does (MAPD d size itt true) m = with_device d (some (size + 1)) m
-does (MAPD d size itt false) m = with_device d none m
-does (MAPC c p true) m = with_collection c (some p) m
-does (MAPC c p false) m = with_collection c none m
-does (MAPTI d e l c) m = with_event d e (some (interrupt l c)) m
-does (MAPI d e c) m = with_event d e (some (interrupt e c)) m
-does (MOVI d e c) m = with_event d e (when_found (m.event d e) (λ x. some (interrupt x.pINTID c))) m
+does (MAPD d size itt true) m = with_device d (Some (size + 1)) m
+does (MAPD d size itt false) m = with_device d None m
+does (MAPC c p true) m = with_collection c (Some p) m
+does (MAPC c p false) m = with_collection c None m
+does (MAPTI d e l c) m = with_event d e (Some (interrupt l c)) m
+does (MAPI d e c) m = with_event d e (Some (interrupt e c)) m
+does (MOVI d e c) m = with_event d e (when_found (m.event d e) (λ x. Some (interrupt x.pINTID c))) m
 does (INT d e) m = m
 does (CLEAR d e) m = m
-does (DISCARD d e) m = with_event d e none m
+does (DISCARD d e) m = with_event d e None m
 does (INV d e) m = m
 does (INVALL c) m = m
 does (SYNC p) m = m
@@ -137,8 +136,8 @@ abbrev pub target_of : Mappings → ℕ → ℕ → Option Target
 target_of m d e =
     when_found (m.event d e) (λ x.
     when_found (m.collection x.ICID) (λ p.
-    some (record { LPI = x.pINTID; processor = p })))
+    Some (record { LPI = x.pINTID; processor = p })))
 
 -- a message of an enabled unit whose tables of devices and of collections are given, of an event within its device's Size
 abbrev pub translation : Bool → Bool → Mappings → ℕ → ℕ → Option Target
-translation Enabled given m d e = if Enabled && (given && event_of m d e) then target_of m d e else none
+translation Enabled given m d e = if Enabled && (given && event_of m d e) then target_of m d e else None

@@ -1,7 +1,6 @@
 -- Arm's ring, the commands that are fetched from it, and the mappings after several commands. By the facts of docs/ARM.md alone.
 -- Assumes nothing.
-use Rattle.std.specs.Prelude.{ℕ, zero, suc, ◌+◌, ◌*◌, ◌%◌, Bool, ◌&&◌, List, [], ◌∷◌, ◌++◌, eqb, if◌then◌else◌}
-use Rattle.std.proofs.Math.Option.{Option}
+use Rattle.std.specs.Prelude.{ℕ, zero, suc, ◌+◌, ◌*◌, ◌%◌, Bool, ◌&&◌, List, [], ◌∷◌, ◌++◌, eqb, if◌then◌else◌, Option}
 use Rattle.model.specs.Choose.{when_found, list_of}
 use Rattle.model.specs.Arm.{◌of◌, ◌in_place◌, CBASER_Physical_Address, CBASER_Size, CBASER_Valid, page, command_size}
 use Rattle.arm_agreement.specs.Commands.{ArmCommand, command_in}

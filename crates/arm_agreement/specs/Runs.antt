@@ -1,16 +1,12 @@
 -- The seam for several commands: the unit after them, their conditions as each one's turn comes, and the unit's answers seen from Arm's.
 -- Assumes nothing.
-use Rattle.std.specs.Prelude.{ℕ, ◌<◌, ◌≡◌, Bool, true, false, ◌⊎◌, List, [], ◌∷◌}
-use Rattle.std.proofs.Math.Option.{Option, none, some}
+use Rattle.std.specs.Prelude.{ℕ, ◌<◌, ◌≡◌, Bool, true, false, ◌⊎◌, List, [], ◌∷◌, Err, None, Ok, Option, Some}
 use Rattle.model.specs.declared.ItsConfig.{ItsConfig}
 use Rattle.model.specs.declared.ItsRegisters.{ItsRegisters}
 use Rattle.model.specs.declared.ItsState.{ItsState}
 use Rattle.model.specs.declared.ItsAction.{ItsAction}
 use Rattle.model.specs.declared.Refusal.TheVariants.{ResourceNotFound}
-use Rattle.model.specs.declared.Verdict.TheVariants.{Accepted}
-use Rattle.model.specs.declared.WriteAnswer.TheVariants.{Taken}
-use Rattle.model.specs.declared.TranslateAnswer.{TranslateAnswer}
-use Rattle.model.specs.declared.TranslateAnswer.TheVariants.{Delivered, NotDelivered}
+use Rattle.model.specs.Answer.{TranslateAnswer, write_taken}
 use Rattle.model.specs.Choose.{if_found}
 use Rattle.model.specs.Keys.{delivery}
 use Rattle.model.specs.Refusal.{write_numbers}
@@ -18,6 +14,7 @@ use Rattle.model.specs.With.{with_registers}
 use Rattle.model.specs.Queue.{Window, command_at, carry_out}
 use Rattle.model.specs.Register.{is_stalled}
 use Rattle.model.specs.Entry.{configure, Outcome, stores, write}
+use Rattle.model.specs.Writing.{then_runs}
 use Rattle.arm_agreement.specs.Commands.{ArmCommand}
 use Rattle.arm_agreement.specs.Mappings.{Mappings, nothing, Target}
 use Rattle.arm_agreement.specs.Ring.{command_place, fetches_if, arm_after}
@@ -60,7 +57,7 @@ passed_by_lem w row u offset width value =
 
 -- of the first n commands from CREADR on, each can be decoded as Arm does
 abbrev pub AllDecodable : Window → ItsRegisters → ℕ → Type 0
-AllDecodable w r n = (m : ℕ) → m < n → (ws : List ℕ) → command_at w (command_place r.cbaser r.creadr m) ≡ some ws → Decodable ws
+AllDecodable w r n = (m : ℕ) → m < n → (ws : List ℕ) → command_at w (command_place r.cbaser r.creadr m) ≡ Some ws → Decodable ws
 
 -- A WRITE, and the commands that it lets run.
 module _ (t : Tables) (w : Window) (row : List ItsAction) (u : ItsState) (offset width value : ℕ) where
@@ -89,19 +86,19 @@ module _ (t : Tables) (w : Window) (row : List ItsAction) (u : ItsState) (offset
     -- so the next write finds them as this one did
     pub kept : WellMapped (arm_of (unit_by after_it))
     -- R11, R16, S02: where the write is not refused, CREADR comes to CWRITER
-    pub all_of_them : (done actions : ℕ) → after_it.written.answer ≡ Taken done actions → (stores row u offset width value).runs ≡ true → stored.enabled ≡ true →
+    pub all_of_them : (done actions : ℕ) → after_it.written.answer ≡ write_taken done actions → then_runs (stores row u offset width value) ≡ true → stored.enabled ≡ true →
         (unit_by after_it).registers.creadr ≡ stored.cwriter
 
 -- FROM CONFIGURATION ON: `Lived k t u m`: a unit configured with k, after some writes that meet their conditions, is u; by Arm its mappings are m
 pub data Lived (k : ItsConfig) (t : Tables) : ItsState → Mappings → Type 0 where
-  configured : (configure k).verdict ≡ Accepted → Lived k t (configure k).unit nothing
+  configured : (configure k).verdict ≡ Ok tt → Lived k t (configure k).unit nothing
   written : {u : ItsState} {m : Mappings} → Lived k t u m → (w : Window) (row : List ItsAction) (offset width value : ℕ) → WriteUnder t w row u offset width value →
       Lived k t (unit_by (write w row u offset width value)) (arm_after (announced_by k t) m (passed_by_lem w row u offset width value))
 
 -- a translated message, and one that is not, as the unit answers them
 abbrev pub answered : Option Target → TranslateAnswer
-answered none = NotDelivered ResourceNotFound
-answered (some a) = Delivered (delivery (lpi a.LPI) (cpu a.processor))
+answered None = Err ResourceNotFound
+answered (Some a) = Ok (delivery (lpi a.LPI) (cpu a.processor))
 
 -- the interrupt that INT makes pending at its processor, and that CLEAR takes back
 abbrev pub signal : Bool → Target → ItsAction

@@ -1,7 +1,6 @@
 -- The seam: the unit's commands and mappings, seen as Arm's. What the unit numbers stands here, and nothing of what Arm says.
 -- Assumes nothing.
-use Rattle.std.specs.Prelude.{ℕ, ◌+◌, Bool, false, ◌&&◌, ◌||◌, not, eqb}
-use Rattle.std.proofs.Math.Option.{Option, none, some}
+use Rattle.std.specs.Prelude.{ℕ, ◌+◌, Bool, false, ◌&&◌, ◌||◌, not, eqb, Err, None, Ok, Option, Some}
 use Rattle.model.specs.declared.ItsDeviceId.{ItsDeviceId}
 use Rattle.model.specs.declared.EventId.{EventId}
 use Rattle.model.specs.declared.CollectionId.{CollectionId}
@@ -9,12 +8,11 @@ use Rattle.model.specs.declared.LpiId.{LpiId}
 use Rattle.model.specs.declared.GicVcpuId.{GicVcpuId}
 use Rattle.model.specs.declared.Command.{Command}
 use Rattle.model.specs.declared.Command.TheVariants.{Mapd, Mapc, Mapti, Mapi, Movi, Int, Clear, Discard, Inv, Invall, Sync}
-use Rattle.model.specs.declared.Decoded.{Decoded}
-use Rattle.model.specs.declared.Decoded.TheVariants.{Known, Unknown}
 use Rattle.model.specs.declared.ItsConfig.{ItsConfig}
 use Rattle.model.specs.declared.ItsState.{ItsState}
 use Rattle.model.specs.declared.Register.{Register}
 use Rattle.model.specs.declared.Register.TheVariants.{Ctlr, Iidr, Typer, Cbaser, Cwriter, Creadr, Baser}
+use Rattle.model.specs.Answer.{Decoded}
 use Rattle.model.specs.Arm.{◌of◌, BASER_Valid}
 use Rattle.model.specs.Choose.{when_found, if_found}
 use Rattle.model.specs.Config.{listed}
@@ -46,23 +44,23 @@ cpu n = record { 0 = n }
 
 -- an Arm command as the unit has it: MAPD without ITT_addr (R26), SYNC without its processor (R38), no MOVALL (R36)
 abbrev pub as_command : ArmCommand → Option Command
-as_command (MAPD d size itt valid) = some (Mapd (dev d) (size + 1) valid)
-as_command (MAPC c p valid) = some (Mapc (col c) (cpu p) valid)
-as_command (MAPTI d e l c) = some (Mapti (dev d) (ev e) (lpi l) (col c))
-as_command (MAPI d e c) = some (Mapi (dev d) (ev e) (col c))
-as_command (MOVI d e c) = some (Movi (dev d) (ev e) (col c))
-as_command (INT d e) = some (Int (dev d) (ev e))
-as_command (CLEAR d e) = some (Clear (dev d) (ev e))
-as_command (DISCARD d e) = some (Discard (dev d) (ev e))
-as_command (INV d e) = some (Inv (dev d) (ev e))
-as_command (INVALL c) = some (Invall (col c))
-as_command (SYNC p) = some Sync
-as_command (MOVALL p q) = none
+as_command (MAPD d size itt valid) = Some (Mapd (dev d) (size + 1) valid)
+as_command (MAPC c p valid) = Some (Mapc (col c) (cpu p) valid)
+as_command (MAPTI d e l c) = Some (Mapti (dev d) (ev e) (lpi l) (col c))
+as_command (MAPI d e c) = Some (Mapi (dev d) (ev e) (col c))
+as_command (MOVI d e c) = Some (Movi (dev d) (ev e) (col c))
+as_command (INT d e) = Some (Int (dev d) (ev e))
+as_command (CLEAR d e) = Some (Clear (dev d) (ev e))
+as_command (DISCARD d e) = Some (Discard (dev d) (ev e))
+as_command (INV d e) = Some (Inv (dev d) (ev e))
+as_command (INVALL c) = Some (Invall (col c))
+as_command (SYNC p) = Some Sync
+as_command (MOVALL p q) = None
 
 -- a command, or the opcode of none
 abbrev pub as_decoded : ℕ → Option Command → Decoded
-as_decoded opcode none = Unknown opcode
-as_decoded opcode (some x) = Known x
+as_decoded opcode None = Err (record { 0 = opcode })
+as_decoded opcode (Some x) = Ok x
 
 -- the unit accepts it; one that it does not know is refused
 abbrev pub takes : ItsState → ArmCommand → Bool
@@ -76,9 +74,9 @@ unit_after_lem u x = if_found (as_command x) (λ y. stepped u y) u
 abbrev pub arm_of : ItsState → Mappings
 arm_of u =
     record {
-      device = λ d. when_found (device_of u (dev d)) (λ r. some r.event_bits);
-      collection = λ c. when_found (collection_of u (col c)) (λ r. some r.target.0);
-      event = λ d e. when_found (translation_of u (dev d) (ev e)) (λ r. some (interrupt r.lpi.0 r.collection.0));
+      device = λ d. when_found (device_of u (dev d)) (λ r. Some r.event_bits);
+      collection = λ c. when_found (collection_of u (col c)) (λ r. Some r.target.0);
+      event = λ d e. when_found (translation_of u (dev d) (ev e)) (λ r. Some (interrupt r.lpi.0 r.collection.0));
     }
 
 -- Arm's registers as the unit numbers them

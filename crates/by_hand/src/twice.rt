@@ -1,11 +1,11 @@
 // One command at a time, on a unit built by hand that holds a device, a collection and a pair twice: which record counts, what is stored, and
 // what a drop leaves.
 use model::{
-    CollectionId, Command, EventId, Executed, GicVcpuId, ItsCollection, ItsDevice, ItsDeviceId,
-    ItsState, LpiId, Translation,
+    CollectionId, Command, EventId, GicVcpuId, ItsCollection, ItsDevice, ItsDeviceId, ItsState,
+    LpiId, Translation,
 };
 use showing::guest::fresh;
-use showing::show::{Sheet, ac, cl, dv, ex, heading, pr, show};
+use showing::show::{Sheet, ac, cl, dv, ex, pr};
 use text::Line;
 
 fn device(bits: u8) -> ItsDevice {
@@ -16,7 +16,7 @@ fn device(bits: u8) -> ItsDevice {
     }
 }
 
-fn collection(number: u16, processor: u16) -> ItsCollection {
+pub(crate) fn collection(number: u16, processor: u16) -> ItsCollection {
     ItsCollection {
         collection: CollectionId(number),
         target: GicVcpuId(processor),
@@ -24,7 +24,7 @@ fn collection(number: u16, processor: u16) -> ItsCollection {
     }
 }
 
-fn pair(event: u32, lpi: u32, number: u16) -> Translation {
+pub(crate) fn pair(event: u32, lpi: u32, number: u16) -> Translation {
     Translation {
         device: ItsDeviceId(5),
         event: EventId(event),
@@ -39,60 +39,40 @@ fn pair(event: u32, lpi: u32, number: u16) -> Translation {
 // (5, 1) as 8500 in collection 3 in record 9.
 fn twice() -> ItsState {
     let mut unit = fresh(65535);
-    let mut devices = unit.devices;
-    let few = device(4);
-    let more = device(8);
-    devices[1] = few;
-    devices[4] = more;
-    unit.devices = devices;
-    let mut collections = unit.collections;
-    let first = collection(2, 1);
-    let other = collection(3, 0);
-    let second = collection(2, 7);
-    collections[2] = first;
-    collections[3] = other;
-    collections[6] = second;
-    unit.collections = collections;
-    let mut translations = unit.translations;
-    let three = pair(9, 8300, 2);
-    let seven = pair(9, 8400, 3);
-    let nine = pair(1, 8500, 3);
-    translations[3] = three;
-    translations[7] = seven;
-    translations[9] = nine;
-    unit.translations = translations;
+    unit.devices[1] = device(4);
+    unit.devices[4] = device(8);
+    unit.collections[2] = collection(2, 1);
+    unit.collections[3] = collection(3, 0);
+    unit.collections[6] = collection(2, 7);
+    unit.translations[3] = pair(9, 8300, 2);
+    unit.translations[7] = pair(9, 8400, 3);
+    unit.translations[9] = pair(1, 8500, 3);
     unit
 }
 
 // The same in the strict profile.
-fn strictly(unit: ItsState) -> ItsState {
-    let mut next = unit;
-    let mut config = next.config;
-    config.profile = 1;
-    next.config = config;
-    next
+fn strictly(mut unit: ItsState) -> ItsState {
+    unit.config.profile = 1;
+    unit
 }
 
 // And without its device.
-fn without_device(unit: ItsState) -> ItsState {
-    let mut next = unit;
+fn without_device(mut unit: ItsState) -> ItsState {
     let free = ItsDevice {
         device: ItsDeviceId(0),
         event_bits: 0,
         used: false,
     };
-    let mut devices = next.devices;
-    devices[1] = free;
-    devices[4] = free;
-    next.devices = devices;
-    next
+    unit.devices[1] = free;
+    unit.devices[4] = free;
+    unit
 }
 
 fn mapd(bits: u8, valid: bool) -> Command {
     Command::Mapd {
         device: ItsDeviceId(5),
         event_bits: bits,
-        valid: valid,
+        valid,
     }
 }
 
@@ -100,7 +80,7 @@ fn mapc(number: u16, processor: u16, valid: bool) -> Command {
     Command::Mapc {
         collection: CollectionId(number),
         target: GicVcpuId(processor),
-        valid: valid,
+        valid,
     }
 }
 
@@ -142,67 +122,59 @@ fn discard() -> Command {
     }
 }
 
-// The line of what a command came to: an action, or the number of its refusal, which is 0 where it has none.
-fn line_of(executed: Executed) -> Line {
-    match executed {
-        Executed::NotDone(refusal) => {
-            let number = answers::refusal_number(refusal);
-            ex(number)
-        }
-        Executed::Done => ex(0),
-        Executed::Acted(action) => text::lines::of_action(action),
-    }
-}
-
-fn executes(
+// The line of what a command came to is its action, or the number of its refusal, which is 0 where it has none.
+fn executes<const N: usize>(
     sheet: &mut Sheet,
-    what: &[u8],
+    what: &str,
     unit: ItsState,
     x: Command,
-    expected: Line,
+    expected: Line<N>,
 ) -> ItsState {
     let applied = command::execute(unit, x);
-    let executed = applied.executed;
-    let came = line_of(executed);
-    show(sheet, what, came, expected);
-    let left = applied.unit;
-    left
+    match applied.executed {
+        Err(why) => sheet.show(what, ex(answers::refusal_number(why)), expected),
+        Ok(None) => sheet.show(what, ex(0), expected),
+        Ok(Some(action)) => sheet.show(what, text::lines::of_action(action), expected),
+    }
+    applied.unit
 }
 
-fn bit(b: bool) -> u64 {
-    if b { 1 } else { 0 }
+fn shows_device(sheet: &mut Sheet, what: &str, unit: ItsState, at: usize, expected: Line<3>) {
+    let r = tables::at(&unit.devices, at);
+    let came = dv(
+        u64::from(r.used),
+        u64::from(r.device.0),
+        u64::from(r.event_bits),
+    );
+    sheet.show(what, came, expected);
 }
 
-fn shows_device(sheet: &mut Sheet, what: &[u8], unit: ItsState, at: usize, expected: Line) {
-    let devices = unit.devices;
-    let r = tables::device_at(devices, at);
-    let bits = r.event_bits as u64;
-    let number = r.device.0 as u64;
-    show(sheet, what, dv(bit(r.used), number, bits), expected);
+fn shows_collection(sheet: &mut Sheet, what: &str, unit: ItsState, at: usize, expected: Line<3>) {
+    let r = tables::at(&unit.collections, at);
+    let came = cl(
+        u64::from(r.used),
+        u64::from(r.collection.0),
+        u64::from(r.target.0),
+    );
+    sheet.show(what, came, expected);
 }
 
-fn shows_collection(sheet: &mut Sheet, what: &[u8], unit: ItsState, at: usize, expected: Line) {
-    let collections = unit.collections;
-    let r = tables::collection_at(collections, at);
-    let number = r.collection.0 as u64;
-    let processor = r.target.0 as u64;
-    show(sheet, what, cl(bit(r.used), number, processor), expected);
-}
-
-fn shows_pair(sheet: &mut Sheet, what: &[u8], unit: ItsState, at: usize, expected: Line) {
-    let translations = unit.translations;
-    let r = tables::translation_at(translations, at);
-    let event = r.event.0 as u64;
-    let lpi = r.lpi.0 as u64;
-    let number = r.collection.0 as u64;
-    show(sheet, what, pr(bit(r.used), event, lpi, number), expected);
+fn shows_pair(sheet: &mut Sheet, what: &str, unit: ItsState, at: usize, expected: Line<4>) {
+    let r = tables::at(&unit.translations, at);
+    let came = pr(
+        u64::from(r.used),
+        u64::from(r.event.0),
+        u64::from(r.lpi.0),
+        u64::from(r.collection.0),
+    );
+    sheet.show(what, came, expected);
 }
 
 // The three records of pairs that the unit above has.
-fn shows_pairs(sheet: &mut Sheet, unit: ItsState, three: Line, seven: Line, nine: Line) {
-    shows_pair(sheet, b"  pair in record 3", unit, 3, three);
-    shows_pair(sheet, b"  pair in record 7", unit, 7, seven);
-    shows_pair(sheet, b"  pair in record 9", unit, 9, nine);
+fn shows_pairs(sheet: &mut Sheet, unit: ItsState, three: Line<4>, seven: Line<4>, nine: Line<4>) {
+    shows_pair(sheet, "  pair in record 3", unit, 3, three);
+    shows_pair(sheet, "  pair in record 7", unit, 7, seven);
+    shows_pair(sheet, "  pair in record 9", unit, 9, nine);
 }
 
 pub fn commands(sheet: &mut Sheet) {
@@ -218,37 +190,34 @@ pub fn commands(sheet: &mut Sheet) {
 }
 
 fn counting(sheet: &mut Sheet) {
-    heading(
-        sheet,
-        b"a unit with device 5, collection 2 and pair (5, 9) twice",
-    );
+    sheet.heading("a unit with device 5, collection 2 and pair (5, 9) twice");
     let unit = twice();
-    executes(sheet, b"INT (5, 9)", unit, int(), ac(1, 8300, 1));
-    executes(sheet, b"CLEAR (5, 9)", unit, clear(), ac(1, 8300, 0));
-    executes(sheet, b"SYNC", unit, Command::Sync, ex(0));
+    executes(sheet, "INT (5, 9)", unit, int(), ac(1, 8300, 1));
+    executes(sheet, "CLEAR (5, 9)", unit, clear(), ac(1, 8300, 0));
+    executes(sheet, "SYNC", unit, Command::Sync, ex(0));
     let left = executes(
         sheet,
-        b"MAPTI (5, 15), which 4 bits hold",
+        "MAPTI (5, 15), which 4 bits hold",
         unit,
         mapti(15, 8600, 3),
         ex(0),
     );
-    shows_pair(sheet, b"  pair in record 0", left, 0, pr(1, 15, 8600, 3));
+    shows_pair(sheet, "  pair in record 0", left, 0, pr(1, 15, 8600, 3));
 }
 
 fn refused(sheet: &mut Sheet) {
     let unit = twice();
     let left = executes(
         sheet,
-        b"MAPTI (5, 16), which 8 bits would hold",
+        "MAPTI (5, 16), which 8 bits would hold",
         unit,
         mapti(16, 8600, 3),
         ex(23),
     );
-    shows_pair(sheet, b"  pair in record 0", left, 0, pr(0, 0, 0, 0));
+    shows_pair(sheet, "  pair in record 0", left, 0, pr(0, 0, 0, 0));
     let stays = executes(
         sheet,
-        b"MOVI (5, 9) to collection 30",
+        "MOVI (5, 9) to collection 30",
         unit,
         movi(30),
         ex(24),
@@ -264,21 +233,21 @@ fn refused(sheet: &mut Sheet) {
 
 fn stored(sheet: &mut Sheet) {
     let unit = twice();
-    let bits = executes(sheet, b"MAPD 5 with 2 bits", unit, mapd(2, true), ex(0));
-    shows_device(sheet, b"  device in record 1", bits, 1, dv(1, 5, 2));
-    shows_device(sheet, b"  device in record 4", bits, 4, dv(1, 5, 8));
+    let bits = executes(sheet, "MAPD 5 with 2 bits", unit, mapd(2, true), ex(0));
+    shows_device(sheet, "  device in record 1", bits, 1, dv(1, 5, 2));
+    shows_device(sheet, "  device in record 4", bits, 4, dv(1, 5, 8));
     let target = executes(
         sheet,
-        b"MAPC 2 to processor 0",
+        "MAPC 2 to processor 0",
         unit,
         mapc(2, 0, true),
         ex(0),
     );
-    shows_collection(sheet, b"  collection in record 2", target, 2, cl(1, 2, 0));
-    shows_collection(sheet, b"  collection in record 6", target, 6, cl(1, 2, 7));
+    shows_collection(sheet, "  collection in record 2", target, 2, cl(1, 2, 0));
+    shows_collection(sheet, "  collection in record 6", target, 6, cl(1, 2, 7));
     let lpi = executes(
         sheet,
-        b"MAPTI (5, 9) as 8700 in collection 3",
+        "MAPTI (5, 9) as 8700 in collection 3",
         unit,
         mapti(9, 8700, 3),
         ex(0),
@@ -294,7 +263,7 @@ fn stored(sheet: &mut Sheet) {
 
 fn moved(sheet: &mut Sheet) {
     let unit = twice();
-    let left = executes(sheet, b"MOVI (5, 9) to collection 3", unit, movi(3), ex(0));
+    let left = executes(sheet, "MOVI (5, 9) to collection 3", unit, movi(3), ex(0));
     shows_pairs(
         sheet,
         left,
@@ -302,12 +271,12 @@ fn moved(sheet: &mut Sheet) {
         pr(1, 9, 8400, 3),
         pr(1, 1, 8500, 3),
     );
-    executes(sheet, b"  INT (5, 9) then", left, int(), ac(0, 8300, 1));
+    executes(sheet, "  INT (5, 9) then", left, int(), ac(0, 8300, 1));
 }
 
 fn discarded(sheet: &mut Sheet) {
     let unit = twice();
-    let left = executes(sheet, b"DISCARD (5, 9)", unit, discard(), ex(0));
+    let left = executes(sheet, "DISCARD (5, 9)", unit, discard(), ex(0));
     shows_pairs(
         sheet,
         left,
@@ -315,25 +284,25 @@ fn discarded(sheet: &mut Sheet) {
         pr(0, 0, 0, 0),
         pr(1, 1, 8500, 3),
     );
-    executes(sheet, b"  INT (5, 9) then", left, int(), ex(8));
-    executes(sheet, b"  DISCARD (5, 9) then", left, discard(), ex(25));
+    executes(sheet, "  INT (5, 9) then", left, int(), ex(8));
+    executes(sheet, "  DISCARD (5, 9) then", left, discard(), ex(25));
 }
 
 fn device_dropped(sheet: &mut Sheet) {
     let unit = twice();
-    let left = executes(sheet, b"MAPD 5, V=0", unit, mapd(1, false), ex(0));
-    shows_device(sheet, b"  device in record 1", left, 1, dv(0, 0, 0));
-    shows_device(sheet, b"  device in record 4", left, 4, dv(0, 0, 0));
+    let left = executes(sheet, "MAPD 5, V=0", unit, mapd(1, false), ex(0));
+    shows_device(sheet, "  device in record 1", left, 1, dv(0, 0, 0));
+    shows_device(sheet, "  device in record 4", left, 4, dv(0, 0, 0));
     shows_pairs(sheet, left, pr(0, 0, 0, 0), pr(0, 0, 0, 0), pr(0, 0, 0, 0));
 }
 
 // The pair (5, 9) is in collection 2, as the record that counts says: it goes with that collection, both records of it.
 fn collection_dropped(sheet: &mut Sheet) {
     let unit = twice();
-    let left = executes(sheet, b"MAPC 2, V=0", unit, mapc(2, 0, false), ex(0));
-    shows_collection(sheet, b"  collection in record 2", left, 2, cl(0, 0, 0));
-    shows_collection(sheet, b"  collection in record 3", left, 3, cl(1, 3, 0));
-    shows_collection(sheet, b"  collection in record 6", left, 6, cl(0, 0, 0));
+    let left = executes(sheet, "MAPC 2, V=0", unit, mapc(2, 0, false), ex(0));
+    shows_collection(sheet, "  collection in record 2", left, 2, cl(0, 0, 0));
+    shows_collection(sheet, "  collection in record 3", left, 3, cl(1, 3, 0));
+    shows_collection(sheet, "  collection in record 6", left, 6, cl(0, 0, 0));
     shows_pairs(
         sheet,
         left,
@@ -346,10 +315,10 @@ fn collection_dropped(sheet: &mut Sheet) {
 // And stays where collection 3 goes, which only its second record names.
 fn other_collection_dropped(sheet: &mut Sheet) {
     let unit = twice();
-    let left = executes(sheet, b"MAPC 3, V=0", unit, mapc(3, 0, false), ex(0));
-    shows_collection(sheet, b"  collection in record 2", left, 2, cl(1, 2, 1));
-    shows_collection(sheet, b"  collection in record 3", left, 3, cl(0, 0, 0));
-    shows_collection(sheet, b"  collection in record 6", left, 6, cl(1, 2, 7));
+    let left = executes(sheet, "MAPC 3, V=0", unit, mapc(3, 0, false), ex(0));
+    shows_collection(sheet, "  collection in record 2", left, 2, cl(1, 2, 1));
+    shows_collection(sheet, "  collection in record 3", left, 3, cl(0, 0, 0));
+    shows_collection(sheet, "  collection in record 6", left, 6, cl(1, 2, 7));
     shows_pairs(
         sheet,
         left,
@@ -364,23 +333,23 @@ fn mapped_in_strict(sheet: &mut Sheet) {
     let unit = strictly(twice());
     let again = executes(
         sheet,
-        b"in strict, MAPD 5 with 2 bits",
+        "in strict, MAPD 5 with 2 bits",
         unit,
         mapd(2, true),
         ex(0),
     );
-    shows_device(sheet, b"  device in record 1", again, 1, dv(1, 5, 2));
-    shows_device(sheet, b"  device in record 4", again, 4, dv(1, 5, 8));
+    shows_device(sheet, "  device in record 1", again, 1, dv(1, 5, 2));
+    shows_device(sheet, "  device in record 4", again, 4, dv(1, 5, 8));
     shows_pairs(sheet, again, pr(0, 0, 0, 0), pr(0, 0, 0, 0), pr(0, 0, 0, 0));
     let bare = without_device(unit);
     let first = executes(
         sheet,
-        b"in strict, MAPD 5 where it is not mapped",
+        "in strict, MAPD 5 where it is not mapped",
         bare,
         mapd(2, true),
         ex(0),
     );
-    shows_device(sheet, b"  device in record 0", first, 0, dv(1, 5, 2));
+    shows_device(sheet, "  device in record 0", first, 0, dv(1, 5, 2));
     shows_pairs(
         sheet,
         first,

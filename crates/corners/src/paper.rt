@@ -1,22 +1,21 @@
 // Document 01, "Corners to hit".
 use showing::guest::{
-    BASER, CBASER, CREADR, CWRITER, TYPER, enabled, example, fresh, put_command, put_example,
-    reads, set, translates, write, writes,
+    BASER, CBASER, CREADR, CWRITER, TYPER, enabled, example, fresh, put_command, put_example, set,
+    write,
 };
-use showing::show::{Sheet, ac, rd, show, tr, wr};
+use showing::show::{Sheet, ac, rd, tr, wr};
+use text::Line;
 
 pub fn registers(sheet: &mut Sheet) {
-    reads(
-        sheet,
-        b"P1 TYPER, limit 65535",
+    sheet.reads(
+        "P1 TYPER, limit 65535",
         fresh(65535),
         TYPER,
         8,
         rd(0, 0x1ef71),
     );
-    reads(
-        sheet,
-        b"P2 TYPER, limit 8192",
+    sheet.reads(
+        "P2 TYPER, limit 8192",
         fresh(8192),
         TYPER,
         8,
@@ -24,9 +23,8 @@ pub fn registers(sheet: &mut Sheet) {
     );
     let page = [5u8; 4096];
     let unit = set(fresh(65535), &page, BASER, 8, 0xffff_ffff_ffff_ffff);
-    reads(
-        sheet,
-        b"P8 all ones into BASER 0",
+    sheet.reads(
+        "P8 all ones into BASER 0",
         unit,
         BASER,
         8,
@@ -37,19 +35,17 @@ pub fn registers(sheet: &mut Sheet) {
 pub fn rings(sheet: &mut Sheet) {
     let page = [5u8; 4096];
     let large = set(fresh(65535), &page, CBASER, 8, 0x10ff);
-    let left = writes(
-        sheet,
-        b"P3 256 pages, CWRITER 0xFFFE0",
+    let left = sheet.writes(
+        "P3 256 pages, CWRITER 0xFFFE0",
         large,
         &page,
         CWRITER,
         0xfffe0,
         wr(0, 0, 0, 0, 0),
     );
-    reads(sheet, b"P3 CWRITER then", left, CWRITER, 8, rd(0, 0xfffe0));
-    writes(
-        sheet,
-        b"P4 CBASER 0x8000000000000000",
+    sheet.reads("P3 CWRITER then", left, CWRITER, 8, rd(0, 0xfffe0));
+    sheet.writes(
+        "P4 CBASER 0x8000000000000000",
         fresh(65535),
         &page,
         CBASER,
@@ -57,18 +53,16 @@ pub fn rings(sheet: &mut Sheet) {
         wr(4, 0, 0, 0, 0),
     );
     one_page(sheet);
-    writes(
-        sheet,
-        b"P6 fresh, CWRITER 32",
+    sheet.writes(
+        "P6 fresh, CWRITER 32",
         fresh(65535),
         &page,
         CWRITER,
         32,
         wr(7, 0, 32, 0, 0),
     );
-    writes(
-        sheet,
-        b"P6 fresh, CWRITER 0",
+    sheet.writes(
+        "P6 fresh, CWRITER 0",
         fresh(65535),
         &page,
         CWRITER,
@@ -81,34 +75,31 @@ pub fn rings(sheet: &mut Sheet) {
 fn one_page(sheet: &mut Sheet) {
     let page = [5u8; 4096];
     let one = set(fresh(65535), &page, CBASER, 8, 0x1000);
-    writes(
-        sheet,
-        b"P5 one page, CWRITER 0xFE0",
+    sheet.writes(
+        "P5 one page, CWRITER 0xFE0",
         one,
         &page,
         CWRITER,
         0xfe0,
         wr(0, 0, 0, 0, 0),
     );
-    writes(
-        sheet,
-        b"P5 one page, CWRITER 0x1000",
+    sheet.writes(
+        "P5 one page, CWRITER 0x1000",
         one,
         &page,
         CWRITER,
         0x1000,
         wr(7, 0, 4096, 0, 0),
     );
-    let left = writes(
-        sheet,
-        b"P5 one page, CWRITER 0x100020",
+    let left = sheet.writes(
+        "P5 one page, CWRITER 0x100020",
         one,
         &page,
         CWRITER,
         0x10_0020,
         wr(0, 0, 0, 0, 0),
     );
-    reads(sheet, b"P5 CWRITER then", left, CWRITER, 8, rd(0, 0x20));
+    sheet.reads("P5 CWRITER then", left, CWRITER, 8, rd(0, 0x20));
 }
 
 // The ring is full of SYNC. Two writes of at most 64 commands bring the reader to 4064.
@@ -116,17 +107,16 @@ fn two_wait(sheet: &mut Sheet) {
     let page = [5u8; 4096];
     let unit = set(enabled(&page, 65535), &page, CWRITER, 8, 2048);
     let last = set(unit, &page, CWRITER, 8, 4064);
-    reads(sheet, b"P7 one page, CREADR", last, CREADR, 8, rd(0, 4064));
-    let left = writes(
-        sheet,
-        b"P7 writer 32: two wait and are done",
+    sheet.reads("P7 one page, CREADR", last, CREADR, 8, rd(0, 4064));
+    let left = sheet.writes(
+        "P7 writer 32: two wait and are done",
         last,
         &page,
         CWRITER,
         32,
         wr(0, 0, 0, 2, 0),
     );
-    reads(sheet, b"P7 CREADR then", left, CREADR, 8, rd(0, 32));
+    sheet.reads("P7 CREADR then", left, CREADR, 8, rd(0, 32));
 }
 
 pub fn mappings(sheet: &mut Sheet) {
@@ -141,20 +131,18 @@ fn four_bits(sheet: &mut Sheet) {
     put_example(&mut page);
     let unit = example(&page);
     put_command(&mut page, 4, 0x5_0000_000a, 0x2009_0000_000f, 2);
-    let left = writes(
-        sheet,
-        b"P9 4 bits, MAPTI of event 15",
+    let left = sheet.writes(
+        "P9 4 bits, MAPTI of event 15",
         unit,
         &page,
         CWRITER,
         160,
         wr(0, 0, 0, 1, 0),
     );
-    translates(sheet, b"P9 event 15", left, 5, 15, tr(0, 8201, 1));
+    sheet.translates("P9 event 15", left, 5, 15, tr(0, 8201, 1));
     put_command(&mut page, 4, 0x5_0000_000a, 0x2009_0000_0010, 2);
-    writes(
-        sheet,
-        b"P9 4 bits, MAPTI of event 16",
+    sheet.writes(
+        "P9 4 bits, MAPTI of event 16",
         unit,
         &page,
         CWRITER,
@@ -169,77 +157,41 @@ fn all_bits(sheet: &mut Sheet) {
     put_command(&mut page, 0, 0x5_0000_0008, 31, 0x8000_0000_0000_0000);
     let unit = example(&page);
     put_command(&mut page, 4, 0x5_0000_000a, 0x2009_ffff_ffff, 2);
-    let left = writes(
-        sheet,
-        b"P9 32 bits, MAPTI of event 0xFFFFFFFF",
+    let left = sheet.writes(
+        "P9 32 bits, MAPTI of event 0xFFFFFFFF",
         unit,
         &page,
         CWRITER,
         160,
         wr(0, 0, 0, 1, 0),
     );
-    translates(
-        sheet,
-        b"P9 event 0xFFFFFFFF",
-        left,
-        5,
-        0xffff_ffff,
-        tr(0, 8201, 1),
-    );
+    sheet.translates("P9 event 0xFFFFFFFF", left, 5, 0xffff_ffff, tr(0, 8201, 1));
 }
 
-fn lpi(sheet: &mut Sheet, what: &[u8], w1: u64, refusal: u64, opcode: u64, offset: u64, done: u64) {
+fn lpi(sheet: &mut Sheet, what: &str, w1: u64, expected: Line<5>) {
     let mut page = [5u8; 4096];
     put_example(&mut page);
     let unit = example(&page);
     put_command(&mut page, 4, 0x5_0000_000a, w1, 2);
-    writes(
-        sheet,
-        what,
-        unit,
-        &page,
-        CWRITER,
-        160,
-        wr(refusal, opcode, offset, done, 0),
-    );
+    sheet.writes(what, unit, &page, CWRITER, 160, expected);
 }
 
 fn limits(sheet: &mut Sheet) {
+    let refused = wr(21, 10, 128, 0, 0);
+    let taken = wr(0, 0, 0, 1, 0);
+    lpi(sheet, "P10 MAPTI to LPI 8191", 0x1fff_0000_0001, refused);
+    lpi(sheet, "P10 MAPTI to LPI 8192", 0x2000_0000_0001, taken);
     lpi(
         sheet,
-        b"P10 MAPTI to LPI 8191",
-        0x1fff_0000_0001,
-        21,
-        10,
-        128,
-        0,
-    );
-    lpi(
-        sheet,
-        b"P10 MAPTI to LPI 8192",
-        0x2000_0000_0001,
-        0,
-        0,
-        0,
-        1,
-    );
-    lpi(
-        sheet,
-        b"P10 MAPTI to the limit, 65535",
+        "P10 MAPTI to the limit, 65535",
         0xffff_0000_0001,
-        0,
-        0,
-        0,
-        1,
+        taken,
     );
     lpi(
         sheet,
-        b"P10 MAPTI to the limit + 1",
+        "P10 MAPTI to the limit + 1",
         0x1_0000_0000_0001,
-        21,
-        10,
-        128,
-        0,
+        refused,
     );
 }
 
@@ -248,20 +200,18 @@ fn second_mapd(sheet: &mut Sheet) {
     put_example(&mut page);
     let unit = example(&page);
     put_command(&mut page, 4, 0x5_0000_0008, 0, 0x8000_0000_0000_0000);
-    let left = writes(
-        sheet,
-        b"P11 after the example, MAPD 5 with 1 bit",
+    let left = sheet.writes(
+        "P11 after the example, MAPD 5 with 1 bit",
         unit,
         &page,
         CWRITER,
         160,
         wr(0, 0, 0, 1, 0),
     );
-    translates(sheet, b"P11 (5, 9) still", left, 5, 9, tr(0, 8200, 1));
+    sheet.translates("P11 (5, 9) still", left, 5, 9, tr(0, 8200, 1));
     put_command(&mut page, 5, 0x5_0000_000a, 0x2008_0000_0009, 2);
-    writes(
-        sheet,
-        b"P11 a new MAPTI of it",
+    sheet.writes(
+        "P11 a new MAPTI of it",
         left,
         &page,
         CWRITER,
@@ -273,18 +223,16 @@ fn second_mapd(sheet: &mut Sheet) {
 pub fn queue(sheet: &mut Sheet) {
     let page = [5u8; 4096];
     let unit = enabled(&page, 65535);
-    writes(
-        sheet,
-        b"budget 64: 64 commands",
+    sheet.writes(
+        "budget 64: 64 commands",
         unit,
         &page,
         CWRITER,
         2048,
         wr(0, 0, 0, 64, 0),
     );
-    writes(
-        sheet,
-        b"budget 64: 65 commands",
+    sheet.writes(
+        "budget 64: 65 commands",
         unit,
         &page,
         CWRITER,
@@ -301,19 +249,14 @@ fn refused_after_int(sheet: &mut Sheet) {
     put_command(&mut page, 5, 0xe, 0, 0);
     let unit = example(&page);
     let w = write(unit, &page, 64, CWRITER, 8, 192);
-    let answer = w.answer;
-    let row = w.row;
-    show(
-        sheet,
-        b"after the example, INT (5, 9) and opcode 0E",
-        text::lines::of_write(answer),
+    sheet.show(
+        "after the example, INT (5, 9) and opcode 0E",
+        text::lines::of_write(w.answer),
         wr(20, 14, 160, 1, 1),
     );
-    let action = row[0];
-    show(
-        sheet,
-        b"the INT's action, handed over all the same",
-        text::lines::of_action(action),
+    sheet.show(
+        "the INT's action, handed over all the same",
+        text::lines::of_action(w.row[0]),
         ac(1, 8200, 1),
     );
 }
@@ -330,9 +273,8 @@ fn movi_order(sheet: &mut Sheet) {
     put_example(&mut page);
     let unit = example(&page);
     put_command(&mut page, 4, 0x5_0000_0001, 8, 3);
-    writes(
-        sheet,
-        b"MOVI of no pair to no collection",
+    sheet.writes(
+        "MOVI of no pair to no collection",
         unit,
         &page,
         CWRITER,
@@ -351,14 +293,13 @@ fn first_name(sheet: &mut Sheet) {
     put_command(&mut page, 7, 0x9, 0, 3);
     let unit = example(&page);
     let first = set(unit, &page, CWRITER, 8, 224);
-    translates(
-        sheet,
-        b"after MOVI to 3, collection 2 dropped",
+    sheet.translates(
+        "after MOVI to 3, collection 2 dropped",
         first,
         5,
         9,
         tr(0, 8200, 0),
     );
     let second = set(first, &page, CWRITER, 8, 256);
-    translates(sheet, b"collection 3 dropped", second, 5, 9, tr(8, 0, 0));
+    sheet.translates("collection 3 dropped", second, 5, 9, tr(8, 0, 0));
 }

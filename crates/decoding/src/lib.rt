@@ -2,108 +2,62 @@
 // is read; and no sum is made that could wrap.
 #![tactic(auto)]
 
-ghost use Rattle.std.specs.Prelude.{◌≡◌};
+ghost use Rattle.std.specs.Prelude.{◌≡◌, ◌-◌, None, Some, if◌then◌else◌};
 ghost use Rattle.model.specs.Decode.{decode as decodeOf};
 ghost use Rattle.model.specs.Queue.{command_at, in_window};
-ghost use Rattle.decoding.specs.Reading.{lent, word_read, no_command, command_read, from_words};
+ghost use Rattle.decoding.specs.Reading.{lent, word_read};
 
-use model::{Command, Decoded};
+use model::{Command, UnknownOpcode};
 
-// A word of a command, where it was read.
+// The guest window: a lent run of bytes with the guest address of its first byte.
 #[derive(Clone, Copy)]
-pub struct WordRead {
-    pub word: u64,
-    pub read: bool,
+pub struct GuestWindow<'a> {
+    pub address: u64,
+    pub bytes: &'a [u8],
 }
 
-// The words of a command, where it was read.
-#[derive(Clone, Copy)]
-pub struct CommandRead {
-    pub words: [u64; 4],
-    pub read: bool,
-}
+impl<'a> GuestWindow<'a> {
+    // Where in the window the command at a guest address begins, if it lies there whole. Guest addresses end at 2^64.
+    fn place(self, wanted: u64) -> Option<usize>
+        ensures { result ≡ (if in_window (lent self.entry.address self.entry.bytes.now) wanted then Some (wanted - self.entry.address) else None) }
+    {
+        if 0xffff_ffff_ffff_ffe0 < wanted {
+            return None;
+        }
+        let offset = wanted.checked_sub(self.address)?;
+        let last = self.bytes.len().checked_sub(32)?;
+        if offset > last as u64 {
+            return None;
+        }
+        Some(offset as usize)
+    }
 
-// Whether the command at a guest address lies whole in the window. Guest addresses end at 2^64.
-fn in_window(address: u64, bytes: &[u8], wanted: u64) -> bool
-    ensures { result ≡ in_window (lent address bytes.now) wanted }
-{
-    if wanted < address {
-        return false;
+    // Word `index` of the command at a guest address; a command has four, and any further one is 0.
+    #[tactic(auto, unfolding(model::specs::Queue::command_at), using(crate::proofs::Reading::no_word, crate::proofs::Reading::a_word))]
+    pub fn word(self, wanted: u64, index: usize) -> Option<u64>
+        ensures { result ≡ word_read (command_at (lent self.entry.address self.entry.bytes.now) wanted) index }
+    {
+        let offset = self.place(wanted)?;
+        if 4 <= index {
+            return Some(0);
+        }
+        Some(words::word_at(self.bytes, offset + index * 8))
     }
-    if 0xffff_ffff_ffff_ffe0 < wanted {
-        return false;
-    }
-    let n = bytes.len();
-    if n < 32 {
-        return false;
-    }
-    let offset = wanted - address;
-    let last = n - 32;
-    offset <= last as u64
-}
 
-// Word `index` of the command at a guest address; a command has four.
-pub fn word_of(address: u64, bytes: &[u8], wanted: u64, index: usize) -> WordRead
-    ensures { result ≡ word_read (command_at (lent address bytes.now) wanted) index }
-{
-    if !in_window(address, bytes, wanted) {
-        return WordRead {
-            word: 0,
-            read: false,
-        };
-    }
-    if 4 <= index {
-        return WordRead {
-            word: 0,
-            read: true,
-        };
-    }
-    let offset = (wanted - address) as usize;
-    let at = offset + index * 8;
-    let word = words::word_at(bytes, at);
-    WordRead {
-        word: word,
-        read: true,
+    // The command at a guest address.
+    #[tactic(auto, unfolding(model::specs::Queue::command_at))]
+    pub fn command(self, wanted: u64) -> Option<[u64; 4]>
+        ensures { result ≡ command_at (lent self.entry.address self.entry.bytes.now) wanted }
+    {
+        let at = self.place(wanted)?;
+        let words = words::decode_words(self.bytes, at);
+        Some(words)
     }
 }
 
-// The four words of a command, each as it was read.
-pub fn from_words(a: WordRead, b: WordRead, c: WordRead, d: WordRead) -> CommandRead
-    ensures { result ≡ from_words a b c d }
-{
-    CommandRead {
-        words: [a.word, b.word, c.word, d.word],
-        read: a.read & (b.read & (c.read & d.read)),
-    }
-}
-
-fn no_command() -> CommandRead
-    ensures { result ≡ no_command }
-{
-    CommandRead {
-        words: [0u64; 4],
-        read: false,
-    }
-}
-
-// The command at a guest address.
-pub fn command_at(address: u64, bytes: &[u8], wanted: u64) -> CommandRead
-    ensures { result ≡ command_read (lent address bytes.now) wanted }
-{
-    if !in_window(address, bytes, wanted) {
-        return no_command();
-    }
-    let offset = (wanted - address) as usize;
-    let words = words::decode_words(bytes, offset);
-    CommandRead {
-        words: words,
-        read: true,
-    }
-}
-
-// One of the kinds of commands, or unknown.
+// One of the kinds of commands, or the opcode of none of them.
 #[tactic(auto, unfolding(model::specs::Decode::decode))]
-pub fn decode(words: [u64; 4]) -> Decoded
+pub fn decode(words: [u64; 4]) -> Result<Command, UnknownOpcode>
     ensures { result ≡ decodeOf words }
 {
     let opcode = words::opcode(words);
@@ -115,52 +69,38 @@ pub fn decode(words: [u64; 4]) -> Decoded
     let target = words::target(words);
     let valid = words::valid(words);
     match opcode {
-        0x08 => Decoded::Known(Command::Mapd {
-            device: device,
-            event_bits: event_bits,
-            valid: valid,
+        0x08 => Ok(Command::Mapd {
+            device,
+            event_bits,
+            valid,
         }),
-        0x09 => Decoded::Known(Command::Mapc {
-            collection: collection,
-            target: target,
-            valid: valid,
+        0x09 => Ok(Command::Mapc {
+            collection,
+            target,
+            valid,
         }),
-        0x0a => Decoded::Known(Command::Mapti {
-            device: device,
-            event: event,
-            lpi: lpi,
-            collection: collection,
+        0x0a => Ok(Command::Mapti {
+            device,
+            event,
+            lpi,
+            collection,
         }),
-        0x0b => Decoded::Known(Command::Mapi {
-            device: device,
-            event: event,
-            collection: collection,
+        0x0b => Ok(Command::Mapi {
+            device,
+            event,
+            collection,
         }),
-        0x01 => Decoded::Known(Command::Movi {
-            device: device,
-            event: event,
-            collection: collection,
+        0x01 => Ok(Command::Movi {
+            device,
+            event,
+            collection,
         }),
-        0x03 => Decoded::Known(Command::Int {
-            device: device,
-            event: event,
-        }),
-        0x04 => Decoded::Known(Command::Clear {
-            device: device,
-            event: event,
-        }),
-        0x0f => Decoded::Known(Command::Discard {
-            device: device,
-            event: event,
-        }),
-        0x0c => Decoded::Known(Command::Inv {
-            device: device,
-            event: event,
-        }),
-        0x0d => Decoded::Known(Command::Invall {
-            collection: collection,
-        }),
-        0x05 => Decoded::Known(Command::Sync),
-        _ => Decoded::Unknown(opcode),
+        0x03 => Ok(Command::Int { device, event }),
+        0x04 => Ok(Command::Clear { device, event }),
+        0x0f => Ok(Command::Discard { device, event }),
+        0x0c => Ok(Command::Inv { device, event }),
+        0x0d => Ok(Command::Invall { collection }),
+        0x05 => Ok(Command::Sync),
+        _ => Err(UnknownOpcode(opcode)),
     }
 }

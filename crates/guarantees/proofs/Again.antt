@@ -10,8 +10,8 @@ use Rattle.model.specs.declared.ItsState.{ItsState}
 use Rattle.model.specs.declared.ItsAction.{ItsAction}
 use Rattle.model.specs.declared.Command.{Command}
 use Rattle.model.specs.declared.RegisterWrite.{RegisterWrite}
-use Rattle.model.specs.declared.WriteAnswer.TheVariants.{NotTaken}
 use Rattle.model.specs.declared.Written.{Written}
+use Rattle.model.specs.Answer.{write_refused}
 use Rattle.model.specs.Choose.{list_of}
 use Rattle.model.specs.With.{with_registers}
 use Rattle.model.specs.Refusal.{write_numbers}
@@ -61,7 +61,7 @@ module _ (w : Window) (row : List ItsAction) (u : ItsState) (offset width value 
         let same : turn w u ≡ t = sym (turn_same u s w g.base g.reader) ∙ e in
         record {
           refuses = λ why opcode h. let it : t ≡ stays why opcode = sym same ∙ h in
-              rw it (ap (λ c. record { unit = stall (with_registers u s); answer = NotTaken why opcode c 0 0 }) g.reader, refl);
+              rw it (ap (λ c. record { unit = stall (with_registers u s); answer = write_refused why opcode c 0 0 }) g.reader, refl);
           accepts = λ x h. let it : t ≡ passes x = sym same ∙ h in rw it (first_accepted x (e ∙ it));
         }
 

@@ -1,11 +1,11 @@
 -- EACH ACTION HANDED OVER IS WHAT THE HISTORY GIVES: along the commands carried out the unit agrees with the history that they lengthen (model: Carried), so
 -- the unit that meets an INT or CLEAR answers it with what the commands before it give.
 -- Assumes nothing.
+use Rattle.std.specs.Prelude.{Err, None, Ok, Option, Some}
 use Prim.Native.Nat.{ℕ}
 use mathlib.Core.Path.{◌≡◌, refl, sym, ap, subst, ◌∙◌}
 use mathlib.Core.Bool.{true, false}
 use mathlib.Core.List.{List, ◌∷◌, ◌++◌, append-nil}
-use mathlib.Core.Option.{Option, none, some}
 use lib.ListN.{drop, take, length}
 use lib.Seq.{take_at}
 use Rattle.model.specs.declared.ItsDeviceId.{ItsDeviceId}
@@ -19,7 +19,6 @@ use Rattle.model.specs.declared.ItsAction.{ItsAction}
 use Rattle.model.specs.declared.Command.{Command}
 use Rattle.model.specs.declared.Command.TheVariants.{Mapd, Mapc, Mapti, Mapi, Movi, Int, Clear, Discard, Inv, Invall, Sync}
 use Rattle.model.specs.declared.Refusal.TheVariants.{ResourceNotFound}
-use Rattle.model.specs.declared.Verdict.TheVariants.{Accepted, Refused}
 use Rattle.model.specs.declared.Written.{Written}
 use Rattle.model.specs.Choose.{◌or◌then◌, when_found, is_found, list_of}
 use Rattle.model.specs.Profile.{Profile, profile_of}
@@ -47,15 +46,15 @@ use Rattle.guarantees.proofs.Kept.{commands_kept}
 -- One more command, which the unit v accepts; v keeps the promise of the commands g ++ h before it.
 module _ (k : ItsConfig) (h g : List Command) (handed : List ItsAction) (before : ActionsOf (profile_of k) h g handed) (v : ItsState) (kept : Promise k v (g ++ h)) where
   -- an INT or CLEAR is accepted where the pair translates, which is where the commands send it
-  int_given : (d : ItsDeviceId) (e : EventId) (o : Option Delivery) → delivery_in v d e ≡ o → is_accepted (is_found o or Refused ResourceNotFound then Accepted) ≡ true →
-      ActionsOf (profile_of k) h (Int d e ∷ g) (handed ++ list_of (when_found o (λ a. some (action_to true a))))
-  int_given d e none q ok = never true refl (sym ok)
-  int_given d e (some a) q ok = an_int before d e a.lpi a.target ((kept.sent d e a.lpi a.target).1 q)
+  int_given : (d : ItsDeviceId) (e : EventId) (o : Option Delivery) → delivery_in v d e ≡ o → is_accepted (is_found o or Err ResourceNotFound then Ok tt) ≡ true →
+      ActionsOf (profile_of k) h (Int d e ∷ g) (handed ++ list_of (when_found o (λ a. Some (action_to true a))))
+  int_given d e None q ok = never true refl (sym ok)
+  int_given d e (Some a) q ok = an_int before d e a.lpi a.target ((kept.sent d e a.lpi a.target).1 q)
 
-  clear_given : (d : ItsDeviceId) (e : EventId) (o : Option Delivery) → delivery_in v d e ≡ o → is_accepted (is_found o or Refused ResourceNotFound then Accepted) ≡ true →
-      ActionsOf (profile_of k) h (Clear d e ∷ g) (handed ++ list_of (when_found o (λ a. some (action_to false a))))
-  clear_given d e none q ok = never true refl (sym ok)
-  clear_given d e (some a) q ok = a_clear before d e a.lpi a.target ((kept.sent d e a.lpi a.target).1 q)
+  clear_given : (d : ItsDeviceId) (e : EventId) (o : Option Delivery) → delivery_in v d e ≡ o → is_accepted (is_found o or Err ResourceNotFound then Ok tt) ≡ true →
+      ActionsOf (profile_of k) h (Clear d e ∷ g) (handed ++ list_of (when_found o (λ a. Some (action_to false a))))
+  clear_given d e None q ok = never true refl (sym ok)
+  clear_given d e (Some a) q ok = a_clear before d e a.lpi a.target ((kept.sent d e a.lpi a.target).1 q)
 
   -- the others have no action
   one_given : (x : Command) → accepts v x ≡ true → ActionsOf (profile_of k) h (x ∷ g) (handed ++ actions_of v x)
@@ -94,10 +93,10 @@ actions_held {k = k} {u = u} {h = h} m w row offset width value r left e =
 
 sent_once : (f : Profile) (h : List Command) (d : ItsDeviceId) (e : EventId) (l l' : LpiId) (p p' : GicVcpuId) → SentTo f h d e l p → SentTo f h d e l' p' → (l ≡ l') × (p ≡ p')
 sent_once f h d e l l' p p' s t =
-    let two : ◌≡◌ {A = Option PairEntry} (some (an_entry l s.collection)) (some (an_entry l' t.collection)) =
+    let two : ◌≡◌ {A = Option PairEntry} (Some (an_entry l s.collection)) (Some (an_entry l' t.collection)) =
     sym ((in_force f d e h l s.collection).0 s.in_force) ∙ (in_force f d e h l' t.collection).0 t.in_force in
     let entry : an_entry l s.collection ≡ an_entry l' t.collection = cc in
-    let processors : ◌≡◌ {A = Option GicVcpuId} (some p) (some p') =
+    let processors : ◌≡◌ {A = Option GicVcpuId} (Some p) (Some p') =
     sym ((processor_of s.collection h p).0 s.processor)
     ∙ (ap (λ c. processor_now c.collection h) entry ∙ (processor_of t.collection h p').0 t.processor) in
     (ap (λ x. x.lpi) entry, (cc))

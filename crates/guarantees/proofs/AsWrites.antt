@@ -6,7 +6,7 @@ use mathlib.Core.List.{List, ◌++◌, map}
 use lib.ListN.{take, drop}
 use Rattle.model.specs.declared.ItsState.{ItsState}
 use Rattle.model.specs.declared.ItsAction.{ItsAction}
-use Rattle.model.specs.declared.WriteAnswer.{WriteAnswer}
+use Rattle.model.specs.Answer.{WriteAnswer}
 use Rattle.model.specs.Queue.{Window}
 use Rattle.model.specs.Entry.{write}
 use Rattle.model.specs.Trace.{lent_row}

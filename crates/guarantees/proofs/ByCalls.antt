@@ -1,6 +1,7 @@
 -- DEMAND 3 over the contracts of the C calls: each call is one of the entry of the same name, so calls lead where the entries lead, and what a
 -- call tells are the numbers of the entry's answer.
 -- Assumes nothing.
+use Rattle.std.specs.Prelude.{Err, Ok}
 use Prim.Native.Nat.{ℕ, zero, suc}
 use native.Mathlib.Omega.{arith}
 use mathlib.Core.Path.{◌≡◌, refl, sym, ap, ap₂, subst, ◌∙◌}
@@ -12,14 +13,8 @@ use Rattle.model.specs.declared.EventId.{EventId}
 use Rattle.model.specs.declared.ItsConfig.{ItsConfig}
 use Rattle.model.specs.declared.ItsState.{ItsState}
 use Rattle.model.specs.declared.Command.{Command}
-use Rattle.model.specs.declared.Verdict.TheVariants.{Accepted}
 use Rattle.model.specs.declared.Refusal.TheVariants.{Unsound, ResourceNotFound}
-use Rattle.model.specs.declared.ReadAnswer.{ReadAnswer}
-use Rattle.model.specs.declared.ReadAnswer.TheVariants.{Value, NoValue}
-use Rattle.model.specs.declared.WriteAnswer.{WriteAnswer}
-use Rattle.model.specs.declared.WriteAnswer.TheVariants.{Taken, NotTaken}
-use Rattle.model.specs.declared.TranslateAnswer.{TranslateAnswer}
-use Rattle.model.specs.declared.TranslateAnswer.TheVariants.{Delivered, NotDelivered}
+use Rattle.model.specs.Answer.{ReadAnswer, TranslateAnswer, WriteAnswer, write_refused}
 use Rattle.model.specs.Profile.{Profile, profile_of}
 use Rattle.model.specs.Config.{sound_config}
 use Rattle.model.specs.Keys.{delivery}
@@ -44,7 +39,7 @@ translates_as : (u : ItsState) (d : ItsDeviceId) (e : EventId) → Translates u 
 translates_as u d e = record { answer = refl; numbers = refl }
 
 -- a configuration whose number is 0 was accepted
-pub accepted : (k : ItsConfig) → verdict_number (configure k).verdict ≡ 0 → (configure k).verdict ≡ Accepted
+pub accepted : (k : ItsConfig) → verdict_number (configure k).verdict ≡ 0 → (configure k).verdict ≡ Ok tt
 unfolding configure
 accepted k h = cases (sound_config k) (λ e. rw e) (λ e. absurd (omega (arith, rw e at h)))
 
@@ -62,37 +57,37 @@ led_by_calls {k} (by_its_write {u = u} {h = h} l w row offset width value left a
     (a_write (led_by_calls l) w (map action_in row) offset width value (record { unit = left; answer = a }) (map action_in after) x)
 
 -- what a translation tells, of an answer that is delivered or refused with 8
-told_delivered : (a : TranslateAnswer) (told : List ℕ) → told ≡ numbers_of_translation a → ((why : _) → a ≡ NotDelivered why → why ≡ ResourceNotFound) →
-    (lpi processor : ℕ) → (told ≡ 0 ∷ lpi ∷ processor ∷ 0 ∷ 0 ∷ []) ↔ (a ≡ Delivered (delivery (record { 0 = lpi }) (record { 0 = processor })))
-told_delivered (Delivered x) told t n lpi processor = (
-  λ q. ap₂ (λ l p. Delivered (delivery (record { 0 = l }) (record { 0 = p }))) (ap (λ l. get_or l 1 0) (sym t ∙ q)) (ap (λ l. get_or l 2 0) (sym t ∙ q)),
+told_delivered : (a : TranslateAnswer) (told : List ℕ) → told ≡ numbers_of_translation a → ((why : _) → a ≡ Err why → why ≡ ResourceNotFound) →
+    (lpi processor : ℕ) → (told ≡ 0 ∷ lpi ∷ processor ∷ 0 ∷ 0 ∷ []) ↔ (a ≡ Ok (delivery (record { 0 = lpi }) (record { 0 = processor })))
+told_delivered (Ok x) told t n lpi processor = (
+  λ q. ap₂ (λ l p. Ok (delivery (record { 0 = l }) (record { 0 = p }))) (ap (λ l. get_or l 1 0) (sym t ∙ q)) (ap (λ l. get_or l 2 0) (sym t ∙ q)),
   λ q. t ∙ ap numbers_of_translation q,
 )
-told_delivered (NotDelivered why) told t n lpi processor = (
-  λ q. absurd (omega (arith, ap (λ l. get_or l 0 0) (sym q ∙ t ∙ ap (λ z. numbers_of_translation (NotDelivered z)) (n why refl)))),
+told_delivered (Err why) told t n lpi processor = (
+  λ q. absurd (omega (arith, ap (λ l. get_or l 0 0) (sym q ∙ t ∙ ap (λ z. numbers_of_translation (Err z)) (n why refl)))),
   λ q. t ∙ ap numbers_of_translation q,
 )
 
-told_refused : (a : TranslateAnswer) (told : List ℕ) → told ≡ numbers_of_translation a → ((why : _) → a ≡ NotDelivered why → why ≡ ResourceNotFound) →
-    (told ≡ 8 ∷ 0 ∷ 0 ∷ 0 ∷ 0 ∷ []) ↔ (a ≡ NotDelivered ResourceNotFound)
-told_refused (Delivered x) told t n = (λ q. absurd (omega (arith, ap (λ l. get_or l 0 0) (sym q ∙ t))), λ q. t ∙ ap numbers_of_translation q)
-told_refused (NotDelivered why) told t n = (λ q. ap NotDelivered (n why refl), λ q. t ∙ ap numbers_of_translation q)
+told_refused : (a : TranslateAnswer) (told : List ℕ) → told ≡ numbers_of_translation a → ((why : _) → a ≡ Err why → why ≡ ResourceNotFound) →
+    (told ≡ 8 ∷ 0 ∷ 0 ∷ 0 ∷ 0 ∷ []) ↔ (a ≡ Err ResourceNotFound)
+told_refused (Ok x) told t n = (λ q. absurd (omega (arith, ap (λ l. get_or l 0 0) (sym q ∙ t))), λ q. t ∙ ap numbers_of_translation q)
+told_refused (Err why) told t n = (λ q. ap Err (n why refl), λ q. t ∙ ap numbers_of_translation q)
 
 through : {A B C : Type 0} → A ↔ B → B ↔ C → A ↔ C
 through f g = (λ a. g.0 (f.0 a), λ c. f.1 (g.1 c))
 
 -- what the number 1 says of an answer
-read_1 : (a : ReadAnswer) → (read_numbers a).refusal ≡ 1 → a ≡ NoValue Unsound
-read_1 (Value v) h = absurd (omega arith)
-read_1 (NoValue why) h = ap NoValue (one_reason why Unsound h)
+read_1 : (a : ReadAnswer) → (read_numbers a).refusal ≡ 1 → a ≡ Err Unsound
+read_1 (Ok v) h = absurd (omega arith)
+read_1 (Err why) h = ap Err (one_reason why Unsound h)
 
-translation_1 : (a : TranslateAnswer) → (translate_numbers a).refusal ≡ 1 → a ≡ NotDelivered Unsound
-translation_1 (Delivered x) h = absurd (omega arith)
-translation_1 (NotDelivered why) h = ap NotDelivered (one_reason why Unsound h)
+translation_1 : (a : TranslateAnswer) → (translate_numbers a).refusal ≡ 1 → a ≡ Err Unsound
+translation_1 (Ok x) h = absurd (omega arith)
+translation_1 (Err why) h = ap Err (one_reason why Unsound h)
 
-write_1 : (a : WriteAnswer) → (write_numbers a).refusal ≡ 1 → (opcode : ℕ) × (at : ℕ) × (done : ℕ) × (actions : ℕ) × (a ≡ NotTaken Unsound opcode at done actions)
-write_1 (Taken done actions) h = absurd (omega arith)
-write_1 (NotTaken why opcode at done actions) h = (opcode, at, done, actions, ap (λ z. NotTaken z opcode at done actions) (one_reason why Unsound h))
+write_1 : (a : WriteAnswer) → (write_numbers a).refusal ≡ 1 → (opcode : ℕ) × (at : ℕ) × (done : ℕ) × (actions : ℕ) × (a ≡ write_refused Unsound opcode at done actions)
+write_1 (Ok w) h = absurd (omega arith)
+write_1 (Err w) h = (w.opcode, w.offset, w.done, w.actions, ap (λ z. write_refused z w.opcode w.offset w.done w.actions) (one_reason w.refusal Unsound h))
 
 map_take : {A B : Type 0} (f : A → B) (n : ℕ) (l : List A) → map f (take n l) ≡ take n (map f l)
 map_take f zero l = refl

@@ -1,11 +1,11 @@
 -- How many actions there are: one for each INT and CLEAR carried out, so no more than commands; and the row that they are laid into stays as long.
 -- Assumes nothing.
+use Rattle.std.specs.Prelude.{Err, None, Ok, Option, Some}
 use Prim.Native.Nat.{◌≤◌}
 use native.Mathlib.Omega.{arith}
 use mathlib.Core.Path.{◌≡◌, refl, sym, ◌∙◌}
 use mathlib.Core.Bool.{Bool, true}
 use mathlib.Core.List.{List, [], ◌∷◌, ◌++◌}
-use mathlib.Core.Option.{Option, none, some}
 use lib.ListN.{length, drop, length-append, length-drop}
 use Rattle.model.specs.declared.Delivery.{Delivery}
 use Rattle.model.specs.declared.ItsState.{ItsState}
@@ -13,7 +13,6 @@ use Rattle.model.specs.declared.ItsAction.{ItsAction}
 use Rattle.model.specs.declared.Command.{Command}
 use Rattle.model.specs.declared.Command.TheVariants.{Mapd, Mapc, Mapti, Mapi, Movi, Int, Clear, Discard, Inv, Invall, Sync}
 use Rattle.model.specs.declared.Refusal.TheVariants.{ResourceNotFound}
-use Rattle.model.specs.declared.Verdict.TheVariants.{Accepted, Refused}
 use Rattle.model.specs.Choose.{◌or◌then◌, when_found, is_found, list_of}
 use Rattle.model.specs.Step.{delivery_in, is_accepted, accepts, action_to, actions_on, actions_of}
 use Rattle.model.specs.Passed.{CarriedOut, nothing, one_more}
@@ -23,10 +22,10 @@ use Rattle.guarantees.specs.Actions.{hands_over, ints_and_clears}
 
 -- Each INT and CLEAR has one action.
 
-one_found : (pending : Bool) (o : Option Delivery) → is_accepted (is_found o or Refused ResourceNotFound then Accepted) ≡ true →
-    length (list_of (when_found o (λ a. some (action_to pending a)))) ≡ 1
-one_found pending none h = never true refl (sym h)
-one_found pending (some a) h = refl
+one_found : (pending : Bool) (o : Option Delivery) → is_accepted (is_found o or Err ResourceNotFound then Ok tt) ≡ true →
+    length (list_of (when_found o (λ a. Some (action_to pending a)))) ≡ 1
+one_found pending None h = never true refl (sym h)
+one_found pending (Some a) h = refl
 
 one_each : (v : ItsState) (x : Command) → accepts v x ≡ true → length (actions_of v x) ≡ hands_over x
 unfolding actions_on

@@ -1,18 +1,17 @@
 -- 01's example is a run on which the profiles agree, and in strict a run of calls as demand 3 speaks of; every answer is computed from the definitions.
 -- Assumes nothing.
+use Rattle.std.specs.Prelude.{Ok, Some}
 use Prim.Native.Nat.{ℕ, zero, suc, ◌<◌}
 use native.Mathlib.Omega.{arith}
 use mathlib.Core.Path.{◌≡◌, refl, sym, subst}
 use mathlib.Core.Bool.{true, false}
 use mathlib.Core.List.{[], ◌∷◌}
-use mathlib.Core.Option.{some}
 use Rattle.model.specs.declared.ItsDeviceId.{ItsDeviceId}
 use Rattle.model.specs.declared.ItsState.{ItsState}
 use Rattle.model.specs.declared.Command.{Command}
 use Rattle.model.specs.declared.Command.TheVariants.{Mapd, Int}
 use Rattle.model.specs.declared.Refusal.TheVariants.{OpcodeUnknown}
-use Rattle.model.specs.declared.Verdict.TheVariants.{Accepted}
-use Rattle.model.specs.declared.WriteAnswer.TheVariants.{Taken, NotTaken}
+use Rattle.model.specs.Answer.{write_refused, write_taken}
 use Rattle.model.specs.Arm.{GITS_CTLR, GITS_CBASER, GITS_CWRITER}
 use Rattle.model.specs.With.{with_registers}
 use Rattle.model.specs.Queue.{run}
@@ -51,7 +50,7 @@ abbrev last : ItsState
 last = (write again_window row (done 1) GITS_CWRITER 8 160).written.unit
 
 -- a command of device 5, or of none, is one on which they agree, but for a MAPD of a mapped device
-of_five : (u : ItsState) (x : Command) → ((d : ItsDeviceId) → device_named x ≡ some d → d ≡ record { 0 = 5 }) →
+of_five : (u : ItsState) (x : Command) → ((d : ItsDeviceId) → device_named x ≡ Some d → d ≡ record { 0 = 5 }) →
     ((d : ItsDeviceId) (bits : ℕ) → x ≡ Mapd d bits true → device_mapped u d ≡ false) → Common u x
 of_five u x five new = record { small = λ d e. rw (five d e) (omega arith); not_again = new }
 
@@ -69,11 +68,11 @@ int_common : (u : ItsState) → Common u (Int (record { 0 = 5 }) (record { 0 = 9
 int_common u = of_five u (Int (record { 0 = 5 }) (record { 0 = 9 })) (λ d e. cc) (λ d bits e. never true refl (cc))
 
 -- the command met, when it is known which it is
-met : (u : ItsState) (x y : Command) → ◌≡◌ {A = _} (some x) (some y) → Common u x → Common u y
+met : (u : ItsState) (x y : Command) → ◌≡◌ {A = _} (Some x) (Some y) → Common u x → Common u y
 met u x y e c = let same : x ≡ y = cc in subst (Common u) same c
 
 -- the four commands that the last write meets
-four : (i : ℕ) → i < 4 → (x : Command) → command_here window (run window i ready).unit.registers ≡ some x → Common (run window i ready).unit x
+four : (i : ℕ) → i < 4 → (x : Command) → command_here window (run window i ready).unit.registers ≡ Some x → Common (run window i ready).unit x
 unfolding shown command_here
 four zero h x e = met _ (mapd 4) x e mapd_common
 four (suc zero) h x e = met _ mapc x e (mapc_common _)
@@ -105,7 +104,7 @@ common_cwriter = record { no_retry = λ e. refl; queue = record { bit63 = λ on 
 wrote : (u : ItsState) (offset width value : ℕ) → Writes window row u offset width value (write window row u offset width value).written (write window row u offset width value).row
 wrote u offset width value = record { answer = refl; row_is = refl; numbers = refl }
 
-accepted : (p : ℕ) → p < 2 → (configure (configured 65535 p)).verdict ≡ Accepted
+accepted : (p : ℕ) → p < 2 → (configure (configured 65535 p)).verdict ≡ Ok tt
 unfolding shown
 accepted zero h = refl
 accepted (suc zero) h = refl
@@ -129,7 +128,7 @@ strictly =
     let to₃ : Led (configured 65535 1) (done 1) example_met = a_write to₂ window row GITS_CWRITER 8 128 _ _ (wrote _ _ _ _) in
     a_write to₃ again_window row GITS_CWRITER 8 160 (write again_window row (done 1) GITS_CWRITER 8 160).written _ (record { answer = refl; row_is = refl; numbers = refl })
 
-mapped_again : Writes again_window row (done 1) GITS_CWRITER 8 160 (record { unit = last; answer = Taken 1 0 }) row
+mapped_again : Writes again_window row (done 1) GITS_CWRITER 8 160 (record { unit = last; answer = write_taken 1 0 }) row
 unfolding shown
 mapped_again = record { answer = refl; row_is = refl; numbers = refl }
 
@@ -140,12 +139,12 @@ halted = (write stop_window row last GITS_CWRITER 8 192).written.unit
 abbrev gone_on : ItsState
 gone_on = (write sync_window row halted GITS_CWRITER 8 193).written.unit
 
-halts : Writes stop_window row last GITS_CWRITER 8 192 (record { unit = halted; answer = NotTaken OpcodeUnknown 14 160 0 0 }) row
+halts : Writes stop_window row last GITS_CWRITER 8 192 (record { unit = halted; answer = write_refused OpcodeUnknown 14 160 0 0 }) row
 unfolding shown
 halts = record { answer = refl; row_is = refl; numbers = refl }
 
 led_halted : Led (configured 65535 1) halted (mapd 4 ∷ example_met)
-led_halted = a_write strictly stop_window row GITS_CWRITER 8 192 (record { unit = halted; answer = NotTaken OpcodeUnknown 14 160 0 0 }) row halts
+led_halted = a_write strictly stop_window row GITS_CWRITER 8 192 (record { unit = halted; answer = write_refused OpcodeUnknown 14 160 0 0 }) row halts
 
 pub example_strict : ExampleStrict
 unfolding shown

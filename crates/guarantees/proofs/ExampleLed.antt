@@ -1,16 +1,14 @@
 -- 01'S EXAMPLE, AND ITS LAST CORNER after it, are a run of calls as demand 3 speaks of, by the entries and by the C calls: every answer is computed from
 -- the definitions, and so are the commands that each write passed.
 -- Assumes nothing.
+use Rattle.std.specs.Prelude.{Err, Ok}
 use Prim.Native.Nat.{ℕ}
 use mathlib.Core.Path.{refl}
 use mathlib.Core.List.{[], ◌∷◌}
 use Rattle.model.specs.declared.ItsState.{ItsState}
 use Rattle.model.specs.declared.Command.TheVariants.{Int}
 use Rattle.model.specs.declared.Refusal.TheVariants.{OpcodeUnknown, ResourceNotFound}
-use Rattle.model.specs.declared.Verdict.TheVariants.{Accepted}
-use Rattle.model.specs.declared.ReadAnswer.TheVariants.{Value}
-use Rattle.model.specs.declared.WriteAnswer.TheVariants.{Taken, NotTaken}
-use Rattle.model.specs.declared.TranslateAnswer.TheVariants.{Delivered, NotDelivered}
+use Rattle.model.specs.Answer.{write_refused, write_taken}
 use Rattle.model.specs.Arm.{GITS_CTLR, GITS_CBASER, GITS_CWRITER, GITS_CREADR}
 use Rattle.model.specs.Keys.{delivery}
 use Rattle.model.specs.Entry.{write}
@@ -44,35 +42,35 @@ unit₄ = (write corner_window row unit₃ GITS_CWRITER 8 192).written.unit
 
 -- By the entries.
 
-cf : Configures (with_limit 65535) (record { unit = unit₀; verdict = Accepted })
+cf : Configures (with_limit 65535) (record { unit = unit₀; verdict = Ok tt })
 unfolding shown
 cf = record { answer = refl; numbers = refl }
 
-wr_cbaser : Writes window row unit₀ GITS_CBASER 8 0x8000000040000000 (record { unit = unit₁; answer = Taken 0 0 }) row
+wr_cbaser : Writes window row unit₀ GITS_CBASER 8 0x8000000040000000 (record { unit = unit₁; answer = write_taken 0 0 }) row
 unfolding shown
 wr_cbaser = record { answer = refl; row_is = refl; numbers = refl }
 
-rd_cbaser : Reads unit₁ GITS_CBASER 4 (Value 1073741824)
+rd_cbaser : Reads unit₁ GITS_CBASER 4 (Ok 1073741824)
 unfolding shown
 rd_cbaser = record { answer = refl; numbers = refl }
 
-wr_ctlr : Writes window row unit₁ GITS_CTLR 4 1 (record { unit = unit₂; answer = Taken 0 0 }) row
+wr_ctlr : Writes window row unit₁ GITS_CTLR 4 1 (record { unit = unit₂; answer = write_taken 0 0 }) row
 unfolding shown
 wr_ctlr = record { answer = refl; row_is = refl; numbers = refl }
 
-wr_cwriter : Writes window row unit₂ GITS_CWRITER 8 128 (record { unit = unit₃; answer = Taken 4 1 }) row_left
+wr_cwriter : Writes window row unit₂ GITS_CWRITER 8 128 (record { unit = unit₃; answer = write_taken 4 1 }) row_left
 unfolding shown
 wr_cwriter = record { answer = refl; row_is = refl; numbers = refl }
 
-rd_creadr : Reads unit₃ GITS_CREADR 8 (Value 128)
+rd_creadr : Reads unit₃ GITS_CREADR 8 (Ok 128)
 unfolding shown
 rd_creadr = record { answer = refl; numbers = refl }
 
-tr_5_9 : Translates unit₃ (record { 0 = 5 }) (record { 0 = 9 }) (Delivered (delivery (record { 0 = 8200 }) (record { 0 = 1 })))
+tr_5_9 : Translates unit₃ (record { 0 = 5 }) (record { 0 = 9 }) (Ok (delivery (record { 0 = 8200 }) (record { 0 = 1 })))
 unfolding shown
 tr_5_9 = record { answer = refl; numbers = refl }
 
-tr_5_8 : Translates unit₃ (record { 0 = 5 }) (record { 0 = 8 }) (NotDelivered ResourceNotFound)
+tr_5_8 : Translates unit₃ (record { 0 = 5 }) (record { 0 = 8 }) (Err ResourceNotFound)
 unfolding shown
 tr_5_8 = record { answer = refl; numbers = refl }
 
@@ -84,7 +82,7 @@ led =
     let to₃ : Led (with_limit 65535) unit₃ example_met = a_write to₂ window row GITS_CWRITER 8 128 _ row_left wr_cwriter in
     a_translate (a_translate (a_read to₃ GITS_CREADR 8 _ rd_creadr) _ _ _ tr_5_9) _ _ _ tr_5_8
 
-wr_corner : Writes corner_window row unit₃ GITS_CWRITER 8 192 (record { unit = unit₄; answer = NotTaken OpcodeUnknown 14 160 1 1 }) row_left
+wr_corner : Writes corner_window row unit₃ GITS_CWRITER 8 192 (record { unit = unit₄; answer = write_refused OpcodeUnknown 14 160 1 1 }) row_left
 unfolding shown
 wr_corner = record { answer = refl; row_is = refl; numbers = refl }
 

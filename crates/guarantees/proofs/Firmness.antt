@@ -9,9 +9,8 @@ use Rattle.model.specs.declared.EventId.{EventId}
 use Rattle.model.specs.declared.ItsConfig.{ItsConfig}
 use Rattle.model.specs.declared.ItsState.{ItsState}
 use Rattle.model.specs.declared.ItsAction.{ItsAction}
-use Rattle.model.specs.declared.ReadAnswer.{ReadAnswer}
-use Rattle.model.specs.declared.TranslateAnswer.{TranslateAnswer}
 use Rattle.model.specs.declared.Configured.{Configured}
+use Rattle.model.specs.Answer.{ReadAnswer, TranslateAnswer}
 use Rattle.model.specs.Refusal.{verdict_number}
 use Rattle.model.specs.Config.{answers_no_unit}
 use Rattle.model.specs.Queue.{Window}

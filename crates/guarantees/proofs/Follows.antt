@@ -17,8 +17,8 @@ use Rattle.model.specs.declared.Command.{Command}
 use Rattle.model.specs.declared.Refusal.{Refusal}
 use Rattle.model.specs.declared.Refusal.TheVariants.{Unsound, RowTooShort, InvalidAccess, Identification, BaseZero, WriterRefused, BudgetExceeded, NotInWindow}
 use Rattle.model.specs.declared.Refusal.TheVariants.{OpcodeUnknown, LpiOutOfRange, DeviceUnmapped, EventBeyondBits, CollectionUnmapped, PairUnmapped, ProcessorUnlisted, DeviceTooLarge, ResourceNotFound, TableFull, LineDoesNotFit}
-use Rattle.model.specs.declared.WriteAnswer.TheVariants.{NotTaken}
 use Rattle.model.specs.declared.Written.{Written}
+use Rattle.model.specs.Answer.{write_refused}
 use Rattle.model.specs.Arm.{command_size}
 use Rattle.model.specs.Refusal.{write_numbers}
 use Rattle.model.specs.With.{with_registers, with_stalled, with_reader, unit_stalled}
@@ -26,6 +26,7 @@ use Rattle.model.specs.Config.{queue_size, sound_config, sound_ring, sound_unit}
 use Rattle.model.specs.Queue.{Window, Stands, distance, waiting, past_command, may_run}
 use Rattle.model.specs.Entry.{Outcome, stores, write}
 use Rattle.model.specs.Passed.{ring_offset, CarriedOut, nothing, one_more}
+use Rattle.model.specs.Writing.{then_runs}
 use Rattle.model.proofs.Cases.{cases, never, and_right}
 use Rattle.model.proofs.Profiles.{may_cleared}
 use Rattle.model.proofs.Ring.{reader_below, offset_here}
@@ -42,7 +43,7 @@ use Rattle.guarantees.proofs.Counted.{as_many}
 use Rattle.guarantees.proofs.Remaining.{waiting_after}
 use Rattle.guarantees.proofs.Kept.{ring_kept, commands_kept}
 use Rattle.guarantees.proofs.Refused.{refusal_kept}
-use Rattle.guarantees.proofs.Unsound.{unsound_answers_1}
+use Rattle.guarantees.proofs.Unsound.{refusal_same, unsound_answers_1}
 use Rattle.guarantees.proofs.Holding.{base_quiet}
 
 -- from a, d commands on in a queue of that size, which has room for more than d
@@ -84,7 +85,7 @@ none_on e (one_more c x ok) = never true refl (cc)
 
 -- What is stored: with a new base nothing runs; and where the queue is let run, base and CREADR are as before and the ring is sound.
 module _ (w : Window) (row : List ItsAction) (u : ItsState) (offset width value : ℕ) where
-  let_run : {s : RegisterWrite} {o : Outcome} → Way w row u offset width value s o → s.runs ≡ true → Stored w row u offset width value s.registers
+  let_run : {s : RegisterWrite} {o : Outcome} → Way w row u offset width value s o → then_runs s ≡ true → Stored w row u offset width value s.registers
   let_run (checked why c) h = never true refl (sym h)
   let_run (no_base sound) h = never true refl (sym h)
   let_run (no_writer sound at) h = never true refl (sym h)
@@ -98,7 +99,7 @@ module _ (w : Window) (row : List ItsAction) (u : ItsState) (offset width value 
     (sound-ring : sound_unit u ≡ true → RingKept u (stores row u offset width value) r)
     (commands : CommandsKept w row u (stores row u offset width value) r left)
     (refusal : RefusalKept w u offset width value (stores row u offset width value) r)
-    (unsound : sound_unit u ≡ false → r.answer ≡ NotTaken Unsound 0 0 0 0) where
+    (unsound : sound_unit u ≡ false → r.answer ≡ write_refused Unsound 0 0 0 0) where
   abbrev s : RegisterWrite
   s = stores row u offset width value
 
@@ -149,7 +150,7 @@ module _ (w : Window) (row : List ItsAction) (u : ItsState) (offset width value 
 
     in_budget : done ≤ u.config.command_budget
     in_budget =
-        cases s.runs
+        cases (then_runs s)
         (λ runs. cases (may_run u.config s.registers)
         (λ on. cases (leb (waiting s.registers) u.config.command_budget)
         (λ l. let few = leb-true (waiting s.registers) u.config.command_budget l in omega (arith, kept.at_most))
@@ -189,12 +190,12 @@ module _ (w : Window) (row : List ItsAction) (u : ItsState) (offset width value 
       let (runs, on, more) = refusal.only_then opcode at n k h in
       let told = refusal.too_many runs on more in
       let stored = let_run w row u offset width value (way w row u offset width value) runs in
-      told ∙ ap (λ a. record { unit = with_registers u s.registers; answer = NotTaken BudgetExceeded 0 a 0 0 }) stored.reader
+      told ∙ ap (λ a. record { unit = with_registers u s.registers; answer = write_refused BudgetExceeded 0 a 0 0 }) stored.reader
 
   -- a refusal that is no command's
-  zeros : {why' : Refusal} {told : ℕ} (why : Refusal) → r.answer ≡ NotTaken why' 0 told 0 0 → IfRefused r why (λ opcode at n k. (opcode ≡ 0) × (n ≡ 0) × (k ≡ 0) × (left ≡ row))
+  zeros : {why' : Refusal} {told : ℕ} (why : Refusal) → r.answer ≡ write_refused why' 0 told 0 0 → IfRefused r why (λ opcode at n k. (opcode ≡ 0) × (n ≡ 0) × (k ≡ 0) × (left ≡ row))
   zeros {why' = why'} {told = told} why same opcode at n k h =
-      let both : NotTaken why opcode at n k ≡ NotTaken why' 0 told 0 0 = sym h ∙ same in (
+      let both : write_refused why opcode at n k ≡ write_refused why' 0 told 0 0 = sym h ∙ same in (
         ap (λ a. (write_numbers a).opcode) both,
         ap (λ a. (write_numbers a).done) both,
         ap (λ a. (write_numbers a).actions) both,
@@ -228,7 +229,7 @@ module _ (w : Window) (row : List ItsAction) (u : ItsState) (offset width value 
   elsewhere LineDoesNotFit other opcode at n k h = absurd (refusal.never_11 opcode at n k h)
 
   -- a command's refusal
-  module _ (why : Refusal) (place : given_at why ≡ at_command) (opcode at n k : ℕ) (h : r.answer ≡ NotTaken why opcode at n k) where
+  module _ (why : Refusal) (place : given_at why ≡ at_command) (opcode at n k : ℕ) (h : r.answer ≡ write_refused why opcode at n k) where
     stop : StopsAt w s r why opcode at
     stop = refusal.at_a_command why place opcode at n k h
 
@@ -242,9 +243,9 @@ module _ (w : Window) (row : List ItsAction) (u : ItsState) (offset width value 
     was_sound : sound_unit u ≡ true
     was_sound =
         cases (sound_unit u) (λ t. t)
-        (λ f. let one : NotTaken why opcode at n k ≡ NotTaken Unsound 0 0 0 0 =
+        (λ f. let one : write_refused why opcode at n k ≡ write_refused Unsound 0 0 0 0 =
         sym h ∙ unsound f in
-        let same : Unsound ≡ why = cc in
+        let same : Unsound ≡ why = sym (refusal_same one) in
         let two : at_entry ≡ at_command = ap given_at same ∙ place in
         never true refl (cc))
 
@@ -259,8 +260,8 @@ module _ (w : Window) (row : List ItsAction) (u : ItsState) (offset width value 
     within =
         cases (leb (waiting s.registers) u.config.command_budget) (λ l. leb-true (waiting s.registers) u.config.command_budget l)
         (λ l. let told = refusal.too_many stop.lets_run may_before (leb-false (waiting s.registers) u.config.command_budget l) in
-        let five : NotTaken why opcode at n k ≡ NotTaken BudgetExceeded 0 s.registers.creadr 0 0 = sym h ∙ ap (λ z. z.answer) told in
-        let same : BudgetExceeded ≡ why = cc in
+        let five : write_refused why opcode at n k ≡ write_refused BudgetExceeded 0 s.registers.creadr 0 0 = sym h ∙ ap (λ z. z.answer) told in
+        let same : BudgetExceeded ≡ why = sym (refusal_same five) in
         let two : at_budget ≡ at_command = ap given_at same ∙ place in
         never true refl (cc))
 
@@ -284,7 +285,7 @@ module _ (w : Window) (row : List ItsAction) (u : ItsState) (offset width value 
 -- THE THEOREMS.
 module _ (w : Window) (row : List ItsAction) (u : ItsState) (offset width value : ℕ) (r : Written) (left : List ItsAction)
     (e : Writes w row u offset width value r left) where
-  unsound_answer : sound_unit u ≡ false → r.answer ≡ NotTaken Unsound 0 0 0 0
+  unsound_answer : sound_unit u ≡ false → r.answer ≡ write_refused Unsound 0 0 0 0
   unsound_answer f = ap (λ z. z.answer) ((unsound_answers_1 u f).writes w row offset width value r left e).0
 
   pub ring_follows : sound_unit u ≡ true → RingFollows u (stores row u offset width value) r

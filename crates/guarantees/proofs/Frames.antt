@@ -1,5 +1,6 @@
 -- Accesses that a sound unit takes: the frame has room for them. And what CWRITER stores where it is written as it is, with Retry.
 -- Assumes nothing.
+use Rattle.std.specs.Prelude.{Err, Ok}
 use Prim.Native.Nat.{ℕ, ◌+◌, ◌^◌, ◌≤◌, ◌<◌}
 use native.Mathlib.Omega.{arith}
 use mathlib.Core.Path.{◌≡◌, refl, sym, ap, ◌∙◌}
@@ -16,8 +17,7 @@ use Rattle.model.specs.declared.ItsAction.{ItsAction}
 use Rattle.model.specs.declared.Register.TheVariants.{Ctlr, Cwriter, Creadr}
 use Rattle.model.specs.declared.RegisterWrite.{RegisterWrite}
 use Rattle.model.specs.declared.Refusal.TheVariants.{WriterRefused}
-use Rattle.model.specs.declared.Verdict.{Verdict}
-use Rattle.model.specs.declared.Verdict.TheVariants.{Accepted, Refused}
+use Rattle.model.specs.Answer.{Verdict}
 use Rattle.model.specs.Choose.{◌or◌then◌}
 use Rattle.model.specs.Arm.{◌of◌, CWRITER_Retry, GITS_CTLR, GITS_CWRITER, GITS_CREADR, LPI_base}
 use Rattle.model.specs.With.{with_enabled, with_stalled, with_writer}
@@ -50,20 +50,20 @@ frame_fits k h n l =
     fits n k.frame_size l (and_left frame processors (and_right budget (frame && processors) (and_right limit (budget && (frame && processors)) (sizes_of k h))))
 
 module _ (k : ItsConfig) (h : sound_config k ≡ true) where
-  ctlr_taken : check_access k GITS_CTLR 4 ≡ Accepted
+  ctlr_taken : check_access k GITS_CTLR 4 ≡ Ok tt
   unfolding check_access register_at
   ctlr_taken = rw (frame_fits k h 4 (omega arith))
 
-  cwriter_taken : check_access k GITS_CWRITER 8 ≡ Accepted
+  cwriter_taken : check_access k GITS_CWRITER 8 ≡ Ok tt
   unfolding check_access register_at
   cwriter_taken = rw (frame_fits k h 144 (omega arith))
 
-  pub creadr_taken : (width : ℕ) → (width ≡ 8) ⊎ (width ≡ 4) → check_access k GITS_CREADR width ≡ Accepted
+  pub creadr_taken : (width : ℕ) → (width ≡ 8) ⊎ (width ≡ 4) → check_access k GITS_CREADR width ≡ Ok tt
   unfolding check_access register_at
   creadr_taken width (inl e) = rw (e, frame_fits k h 152 (omega arith))
   creadr_taken width (inr e) = rw (e, frame_fits k h 148 (omega arith))
 
-  pub creadr_high_taken : check_access k (GITS_CREADR + 4) 4 ≡ Accepted
+  pub creadr_high_taken : check_access k (GITS_CREADR + 4) 4 ≡ Ok tt
   unfolding check_access register_at
   creadr_high_taken = rw (frame_fits k h 152 (omega arith))
 
@@ -135,8 +135,8 @@ module _ (u : ItsState) (row : List ItsAction) (width value : ℕ) (y : is_stric
       is_taken (if_accepted d (to_cwriter u.config u.registers written) (refusing u.registers 0)).answer ≡ true →
       Goes (if_accepted d (to_cwriter u.config u.registers written) (refusing u.registers 0))
   unfolding to_cwriter
-  by_verdict (Refused why) c t = never true refl (sym t)
-  by_verdict Accepted c t =
+  by_verdict (Err why) c t = never true refl (sym t)
+  by_verdict (Ok _) c t =
       let k = checks_taken u.config u.registers (length row) GITS_CWRITER width c in
       let bit-so = retry_of u.config GITS_CWRITER width k.access at_cwriter u.registers (and_right (sound_config u.config) _ k.is_sound) value ∙ bit in
       by_writer (writer_accepted u.registers writer) (retries u.config written) (with_bit bit-so) t
@@ -147,7 +147,7 @@ module _ (u : ItsState) (row : List ItsAction) (width value : ℕ) (y : is_stric
 
 -- what a write stores, of a sound unit with a row that has room
 module _ (u : ItsState) (row : List ItsAction) (sound : sound_unit u ≡ true) (room : u.config.command_budget ≤ length row) where
-  taken : (offset width : ℕ) → check_access u.config offset width ≡ Accepted → check_write u.config u.registers (length row) offset width ≡ Accepted
+  taken : (offset width : ℕ) → check_access u.config offset width ≡ Ok tt → check_write u.config u.registers (length row) offset width ≡ Ok tt
   unfolding check_write
   taken offset width a = rw (sound, le-leb u.config.command_budget (length row) room) a
 

@@ -1,5 +1,6 @@
 -- A queue that is held runs nothing; a profile or a setting that there is not is refused; and numbers of another layout are a unit that answers 1.
 -- Assumes nothing.
+use Rattle.std.specs.Prelude.{Err}
 use Prim.Native.Nat.{ℕ, zero, suc, ◌+◌, ◌≤◌, ◌<◌}
 use native.Mathlib.Omega.{arith}
 use mathlib.Core.Path.{◌≡◌, refl, sym, ap, ◌∙◌}
@@ -14,7 +15,6 @@ use Rattle.model.specs.declared.ItsState.{ItsState}
 use Rattle.model.specs.declared.ItsAction.{ItsAction}
 use Rattle.model.specs.declared.RegisterWrite.{RegisterWrite}
 use Rattle.model.specs.declared.Refusal.TheVariants.{Unsound}
-use Rattle.model.specs.declared.Verdict.TheVariants.{Refused}
 use Rattle.model.specs.declared.Configured.{Configured}
 use Rattle.model.specs.declared.Written.{Written}
 use Rattle.model.specs.Arm.{◌of◌, CBASER_Valid}
@@ -23,6 +23,7 @@ use Rattle.model.specs.Config.{no_config, sizes_in01, sound_config, sound_unit}
 use Rattle.model.specs.Queue.{Window, held, may_run}
 use Rattle.model.specs.Refusal.{verdict_number}
 use Rattle.model.specs.Entry.{Outcome, configure, stores}
+use Rattle.model.specs.Writing.{then_runs}
 use Rattle.model.proofs.Cases.{cases, never, and_left, and_right}
 use Rattle.model.proofs.Profiles.{is_strict_lem, held_may}
 use Rattle.model.proofs.Ways.{Way, checked, no_base, no_writer, quiet, based, off, over, ran, way}
@@ -36,7 +37,7 @@ use Rattle.guarantees.proofs.NotConfigured.{not_configured}
 
 module _ (w : Window) (row : List ItsAction) (u : ItsState) (offset width value : ℕ) where
   -- a write with a new base lets no queue run
-  pub base_quiet : {s : RegisterWrite} {o : Outcome} → Way w row u offset width value s o → s.rebased ≡ true → s.runs ≡ false
+  pub base_quiet : {s : RegisterWrite} {o : Outcome} → Way w row u offset width value s o → s.rebased ≡ true → then_runs s ≡ false
   base_quiet (checked why c) b = refl
   base_quiet (no_base sound) b = refl
   base_quiet (no_writer sound at) b = refl
@@ -46,7 +47,7 @@ module _ (w : Window) (row : List ItsAction) (u : ItsState) (offset width value 
   base_quiet (over s g on more) b = never true refl (sym b)
   base_quiet (ran s g on within) b = never true refl (sym b)
 
-  pub held_by_way : {s : RegisterWrite} {o : Outcome} → Way w row u offset width value s o → s.runs ≡ true → held u.config s.registers ≡ true → OnlyStores row u s o.written o.row
+  pub held_by_way : {s : RegisterWrite} {o : Outcome} → Way w row u offset width value s o → then_runs s ≡ true → held u.config s.registers ≡ true → OnlyStores row u s o.written o.row
   held_by_way (checked why c) runs h = never true refl (sym runs)
   held_by_way (no_base sound) runs h = never true refl (sym runs)
   held_by_way (no_writer sound at) runs h = never true refl (sym runs)
@@ -56,21 +57,21 @@ module _ (w : Window) (row : List ItsAction) (u : ItsState) (offset width value 
   held_by_way (over s g on more) runs h = never (may_run u.config s) on (held_may u.config s h)
   held_by_way (ran s g on within) runs h = never (may_run u.config s) on (held_may u.config s h)
 
-  pub held_stores : (r : Written) (left : List ItsAction) → Writes w row u offset width value r left → profile_of u.config ≡ strict → (stores row u offset width value).runs ≡ true →
+  pub held_stores : (r : Written) (left : List ItsAction) → Writes w row u offset width value r left → profile_of u.config ≡ strict → then_runs (stores row u offset width value) ≡ true →
       CBASER_Valid of (stores row u offset width value).registers.cbaser ≡ 0 → OnlyStores row u (stores row u offset width value) r left
   unfolding held
   held_stores r left e s runs clear =
       rw (e.answer, e.row_is) (held_by_way (way w row u offset width value) runs (rw (is_strict_lem u.config s, clear) refl))
 
 -- a profile that there is not
-pub no_such_profile : (k : ItsConfig) (c : Configured) → Configures k c → 1 < k.profile → c.verdict ≡ Refused Unsound
+pub no_such_profile : (k : ItsConfig) (c : Configured) → Configures k c → 1 < k.profile → c.verdict ≡ Err Unsound
 no_such_profile k c e above = ap (λ z. z.verdict) e.answer ∙ not_configured k above
 
 -- what is not configured is told with 1
-told_1 : (k : ItsConfig) → (configure k).verdict ≡ Refused Unsound → verdict_number (configure k).verdict ≡ 1
+told_1 : (k : ItsConfig) → (configure k).verdict ≡ Err Unsound → verdict_number (configure k).verdict ≡ 1
 told_1 k n = ap verdict_number n
 
-none_verdict : (configure no_config).verdict ≡ Refused Unsound
+none_verdict : (configure no_config).verdict ≡ Err Unsound
 unfolding configure sound_config sizes_in01
 none_verdict = refl
 

@@ -13,7 +13,7 @@ use Rattle.model.specs.declared.Written.{Written}
 use Rattle.model.specs.With.{with_registers}
 use Rattle.model.specs.Config.{sound_unit}
 use Rattle.model.specs.Queue.{Window}
-use Rattle.model.specs.Writing.{refusing, storing, rebasing, going}
+use Rattle.model.specs.Writing.{refusing, storing, rebasing, going, then_runs}
 use Rattle.model.specs.Entry.{Outcome, stores}
 use Rattle.model.specs.Passed.{nothing}
 use Rattle.model.proofs.Cases.{never}
@@ -26,7 +26,7 @@ use Rattle.guarantees.proofs.Stopped.{commands_run}
 module _ (w : Window) (row : List ItsAction) (u : ItsState) (offset width value : ℕ) where
   -- THE RING.
   module _ (sound : sound_unit u ≡ true) {s : RegisterWrite} {o : Outcome} (a : AsRun w row u offset width value s o) where
-    ring_by_run : (s.runs ≡ false → done_in o.written ≡ 0) → RingKept u s o.written
+    ring_by_run : (then_runs s ≡ false → done_in o.written ≡ 0) → RingKept u s o.written
     ring_by_run none_run =
         record {
           sound = stays_sound w row u offset width value sound a;
@@ -36,7 +36,7 @@ module _ (w : Window) (row : List ItsAction) (u : ItsState) (offset width value 
         }
 
   -- a write that lets no queue run
-  idle : {s : RegisterWrite} {o : Outcome} → Way w row u offset width value s o → s.runs ≡ false → done_in o.written ≡ 0
+  idle : {s : RegisterWrite} {o : Outcome} → Way w row u offset width value s o → then_runs s ≡ false → done_in o.written ≡ 0
   idle (checked why c) h = refl
   idle (no_base sound) h = refl
   idle (no_writer sound at) h = refl

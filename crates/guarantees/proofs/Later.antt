@@ -14,14 +14,14 @@ use Rattle.model.specs.declared.ItsState.{ItsState}
 use Rattle.model.specs.declared.ItsAction.{ItsAction}
 use Rattle.model.specs.declared.Refusal.{Refusal}
 use Rattle.model.specs.declared.Refusal.TheVariants.{BudgetExceeded}
-use Rattle.model.specs.declared.WriteAnswer.TheVariants.{NotTaken}
 use Rattle.model.specs.declared.Written.{Written}
+use Rattle.model.specs.Answer.{write_refused}
 use Rattle.model.specs.Arm.{GITS_CTLR, GITS_CWRITER}
 use Rattle.model.specs.With.{with_registers, with_stalled, with_writer, unit_stalled}
 use Rattle.model.specs.Profile.{strict, is_strict, profile_of}
 use Rattle.model.specs.Config.{sound_unit}
 use Rattle.model.specs.Queue.{Window, waiting, stall, held, may_run}
-use Rattle.model.specs.Writing.{going}
+use Rattle.model.specs.Writing.{going, then_runs}
 use Rattle.model.specs.Entry.{stores}
 use Rattle.model.proofs.Cases.{cases}
 use Rattle.model.proofs.Stalled.{is_taken}
@@ -61,7 +61,7 @@ stall_again u y on = rw y (ap (λ b. unit_stalled u b) (sym on))
 
 -- THE THEOREM.
 module _ (w : Window) (row : List ItsAction) (u : ItsState) (offset width value : ℕ) (v : Written) (left : List ItsAction) (e : Writes w row u offset width value v left)
-    (why : Refusal) (place : given_at why ≡ at_command) (opcode at done actions : ℕ) (h : v.answer ≡ NotTaken why opcode at done actions) where
+    (why : Refusal) (place : given_at why ≡ at_command) (opcode at done actions : ℕ) (h : v.answer ≡ write_refused why opcode at done actions) where
   p : StopsAt w (stores row u offset width value) v why opcode at
   p = (refusal_kept w row u offset width value v left e).at_a_command why place opcode at done actions h
 
@@ -87,8 +87,8 @@ module _ (w : Window) (row : List ItsAction) (u : ItsState) (offset width value 
   again_refused row' offset' width' value' r left' e' s same may waits back =
       let t : Tries v.unit (going s) = record { lets_run = refl; may = may; waits = rw waits p.waits; within = rw waits few } in
       let (answer, row_same) = (tries_again w row' v.unit offset' width' value' r left' e' (rw same t)).refuses why opcode p.fails in (
-        answer ∙ (ap₂ (λ z a. record { unit = stall (with_registers v.unit z.registers); answer = NotTaken why opcode a 0 0 }) same (sym p.offset)
-            ∙ ap (λ z. record { unit = z; answer = NotTaken why opcode at 0 0 }) back),
+        answer ∙ (ap₂ (λ z a. record { unit = stall (with_registers v.unit z.registers); answer = write_refused why opcode a 0 0 }) same (sym p.offset)
+            ∙ ap (λ z. record { unit = z; answer = write_refused why opcode at 0 0 }) back),
         row_same,
       )
 
@@ -98,7 +98,7 @@ module _ (w : Window) (row : List ItsAction) (u : ItsState) (offset width value 
     accepted_stores t =
         sym (accepted_by w' row' v.unit GITS_CWRITER width' value' (way w' row' v.unit GITS_CWRITER width' value')) ∙ (ap (λ z. accepted z.answer) (sym e'.answer) ∙ t)
 
-    not_over : (stores row' v.unit GITS_CWRITER width' value').runs ≡ true → may_run v.unit.config (stores row' v.unit GITS_CWRITER width' value').registers ≡ true →
+    not_over : then_runs (stores row' v.unit GITS_CWRITER width' value') ≡ true → may_run v.unit.config (stores row' v.unit GITS_CWRITER width' value').registers ≡ true →
         IfRefused r BudgetExceeded (λ opcode at done actions. ⊥) → waiting (stores row' v.unit GITS_CWRITER width' value').registers ≤ v.unit.config.command_budget
     not_over runs may no-5 =
         let n = waiting (stores row' v.unit GITS_CWRITER width' value').registers in
@@ -120,7 +120,7 @@ module _ (w : Window) (row : List ItsAction) (u : ItsState) (offset width value 
             let goes = retry_goes v.unit row' width' value' (is_strict_lem v.unit.config y) bit (accepted_stores w' row' width' value' r left' e' taken) in
             let may : may_run v.unit.config (stores row' v.unit GITS_CWRITER width' value').registers ≡ true =
             ap (λ s. may_run v.unit.config s.registers) goes ∙ (may_writer v.unit.config v.unit.registers _ ∙ q.may_still) in
-            let runs : (stores row' v.unit GITS_CWRITER width' value').runs ≡ true = ap (λ s. s.runs) goes in
+            let runs : then_runs (stores row' v.unit GITS_CWRITER width' value') ≡ true = ap then_runs goes in
             tries_again w' row' v.unit GITS_CWRITER width' value' r left' e'
             (record { lets_run = runs; may = may; waits = some_wait; within = not_over w' row' width' value' r left' e' runs may no-5 });
         retried = λ y row' r left' e' room.

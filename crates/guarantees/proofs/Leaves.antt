@@ -1,9 +1,9 @@
 -- WHAT A REFUSED READ AND A REFUSED TRANSLATION LEAVE.
 -- Assumes nothing.
+use Rattle.std.specs.Prelude.{Err, None, Ok, Option, Some}
 use Prim.Native.Nat.{ℕ}
 use mathlib.Core.Path.{◌≡◌, refl, sym, ap, ◌∙◌}
 use mathlib.Core.Bool.{Bool, true, false}
-use mathlib.Core.Option.{Option, none, some}
 use mathlib.Core.Logic.{◌⊎◌, inl, inr}
 use Rattle.model.specs.declared.ItsDeviceId.{ItsDeviceId}
 use Rattle.model.specs.declared.EventId.{EventId}
@@ -11,12 +11,7 @@ use Rattle.model.specs.declared.Delivery.{Delivery}
 use Rattle.model.specs.declared.ItsState.{ItsState}
 use Rattle.model.specs.declared.Refusal.{Refusal}
 use Rattle.model.specs.declared.Refusal.TheVariants.{Unsound, ResourceNotFound}
-use Rattle.model.specs.declared.Verdict.{Verdict}
-use Rattle.model.specs.declared.Verdict.TheVariants.{Accepted, Refused}
-use Rattle.model.specs.declared.ReadAnswer.{ReadAnswer}
-use Rattle.model.specs.declared.ReadAnswer.TheVariants.{Value, NoValue}
-use Rattle.model.specs.declared.TranslateAnswer.{TranslateAnswer}
-use Rattle.model.specs.declared.TranslateAnswer.TheVariants.{Delivered, NotDelivered}
+use Rattle.model.specs.Answer.{ReadAnswer, TranslateAnswer, Verdict}
 use Rattle.model.specs.Choose.{◌or◌then◌, if_found}
 use Rattle.model.specs.Refusal.{read_numbers, translate_numbers}
 use Rattle.model.specs.Config.{sound_unit}
@@ -29,9 +24,9 @@ use Rattle.guarantees.specs.Refusals.{ReadLeaves, TranslateLeaves}
 use Rattle.guarantees.proofs.Reasons.{Only, OfRead, read_only}
 
 -- the reason of a refused read is that of its checks
-pub read_reason : (P : Refusal → Type 0) (v : Verdict) (n : ℕ) → Only P v → (why : Refusal) → if_accepted v (Value n) NoValue ≡ NoValue why → P why
-read_reason P Accepted n o why h = never true refl (cc)
-read_reason P (Refused why') n o why h = let same : why' ≡ why = cc in rw (← same) o
+pub read_reason : (P : Refusal → Type 0) (v : Verdict) (n : ℕ) → Only P v → (why : Refusal) → if_accepted v (Ok n) Err ≡ Err why → P why
+read_reason P (Ok _) n o why h = never true refl (cc)
+read_reason P (Err why') n o why h = let same : why' ≡ why = cc in rw (← same) o
 
 pub read_leaves : (u : ItsState) (offset width : ℕ) (r : ReadAnswer) → Reads u offset width r → ReadLeaves r
 unfolding read_from
@@ -42,10 +37,10 @@ read_leaves u offset width r e =
     }
 
 translate_reason : (b : Bool) (o : Option Delivery) (why : Refusal) →
-    (b or NotDelivered Unsound then if_found o Delivered (NotDelivered ResourceNotFound)) ≡ NotDelivered why → (why ≡ Unsound) ⊎ (why ≡ ResourceNotFound)
+    (b or Err Unsound then if_found o Ok (Err ResourceNotFound)) ≡ Err why → (why ≡ Unsound) ⊎ (why ≡ ResourceNotFound)
 translate_reason false o why h = inl (cc)
-translate_reason true none why h = inr (cc)
-translate_reason true (some a) why h = never true refl (cc)
+translate_reason true None why h = inr (cc)
+translate_reason true (Some a) why h = never true refl (cc)
 
 pub translate_leaves : (u : ItsState) (d : ItsDeviceId) (e : EventId) (r : TranslateAnswer) → Translates u d e r → TranslateLeaves r
 unfolding translate

@@ -1,11 +1,11 @@
 -- Which refusals come from where: a command that stays is refused for a command's reason, with its opcode; an access that fails its checks with 2 or
 -- 3; a write before that with 1 or 10, and a sound unit not with 1.
 -- Assumes nothing.
+use Rattle.std.specs.Prelude.{Err, None, Ok, Option, Some}
 use Prim.Native.Nat.{ℕ}
 use mathlib.Core.Path.{◌≡◌, refl, subst}
 use mathlib.Core.Bool.{Bool, true, false, not}
 use mathlib.Core.List.{List}
-use mathlib.Core.Option.{Option, none, some}
 use mathlib.Core.Logic.{◌⊎◌, inl, inr}
 use lib.Dec.{leb}
 use Rattle.model.specs.declared.ItsDeviceId.{ItsDeviceId}
@@ -16,13 +16,10 @@ use Rattle.model.specs.declared.ItsConfig.{ItsConfig}
 use Rattle.model.specs.declared.ItsState.{ItsState}
 use Rattle.model.specs.declared.Command.{Command}
 use Rattle.model.specs.declared.Command.TheVariants.{Mapd, Mapc, Mapti, Mapi, Movi, Int, Clear, Discard, Inv, Invall, Sync}
-use Rattle.model.specs.declared.Decoded.{Decoded}
-use Rattle.model.specs.declared.Decoded.TheVariants.{Known, Unknown}
 use Rattle.model.specs.declared.Refusal.{Refusal}
 use Rattle.model.specs.declared.Refusal.TheVariants.{Unsound, RowTooShort, InvalidAccess, Identification, NotInWindow}
 use Rattle.model.specs.declared.Refusal.TheVariants.{LpiOutOfRange, DeviceUnmapped, EventBeyondBits, CollectionUnmapped, PairUnmapped, ProcessorUnlisted, DeviceTooLarge, ResourceNotFound, TableFull}
-use Rattle.model.specs.declared.Verdict.{Verdict}
-use Rattle.model.specs.declared.Verdict.TheVariants.{Accepted, Refused}
+use Rattle.model.specs.Answer.{Decoded, Verdict}
 use Rattle.model.specs.Choose.{◌or◌then◌, if_found}
 use Rattle.model.specs.Arm.{is_identification}
 use Rattle.model.specs.Keys.{event_as_lpi}
@@ -37,11 +34,11 @@ use Rattle.guarantees.specs.Refusals.{at_entry, at_command, given_at}
 
 -- if it is a refusal, it is one of which P holds
 abbrev pub Only : (Refusal → Type 0) → Verdict → Type 0
-Only P Accepted = Unit {0}
-Only P (Refused why) = P why
+Only P (Ok _) = Unit {0}
+Only P (Err why) = P why
 
 -- a check with such a refusal, and others after it
-check_only : (P : Refusal → Type 0) (b : Bool) (why : Refusal) (k : Verdict) → P why → Only P k → Only P (b or Refused why then k)
+check_only : (P : Refusal → Type 0) (b : Bool) (why : Refusal) (k : Verdict) → P why → Only P k → Only P (b or Err why then k)
 check_only P true why k h i = i
 check_only P false why k h i = h
 
@@ -88,16 +85,16 @@ module _ (u : ItsState) where
   Stays told (stays why opcode) = (given_at why ≡ at_command) × (opcode ≡ told)
 
   stays_verdict : (v : Verdict) (x : Command) (opcode : ℕ) → Only Commands v → Stays opcode (judged v x opcode)
-  stays_verdict Accepted x opcode h = tt
-  stays_verdict (Refused why) x opcode h = (h, refl)
+  stays_verdict (Ok _) x opcode h = tt
+  stays_verdict (Err why) x opcode h = (h, refl)
 
   stays_decoded : (k : Decoded) (opcode : ℕ) → Stays opcode (turn_on u opcode k)
-  stays_decoded (Known x) opcode = stays_verdict (check u x) x opcode (command_only x)
-  stays_decoded (Unknown n) opcode = (refl, refl)
+  stays_decoded (Ok x) opcode = stays_verdict (check u x) x opcode (command_only x)
+  stays_decoded (Err n) opcode = (refl, refl)
 
   stays_words : (o : Option (List ℕ)) → Stays (if_found o opcode_of 0) (if_found o (λ ws. turn_on u (opcode_of ws) (decode ws)) (stays NotInWindow 0))
-  stays_words none = (refl, refl)
-  stays_words (some ws) = stays_decoded (decode ws) (opcode_of ws)
+  stays_words None = (refl, refl)
+  stays_words (Some ws) = stays_decoded (decode ws) (opcode_of ws)
 
   pub staying : (w : Window) (why : Refusal) (opcode : ℕ) → turn w u ≡ stays why opcode →
       (given_at why ≡ at_command) × (opcode ≡ if_found (command_at w (command_address u.registers u.registers.creadr)) opcode_of 0)

@@ -1,17 +1,16 @@
 -- The command at CREADR has the same turn whatever the other registers are.
 -- Assumes nothing.
+use Rattle.std.specs.Prelude.{Err, None, Ok, Option, Some}
 use Prim.Native.Nat.{ℕ, ◌+◌}
 use mathlib.Core.Path.{◌≡◌, refl, ap, ap₂, ◌∙◌}
 use mathlib.Core.Bool.{true, false}
 use mathlib.Core.List.{List}
-use mathlib.Core.Option.{Option, none, some}
 use Rattle.model.specs.declared.ItsRegisters.{ItsRegisters}
 use Rattle.model.specs.declared.ItsState.{ItsState}
 use Rattle.model.specs.declared.Command.{Command}
 use Rattle.model.specs.declared.Command.TheVariants.{Mapd, Mapc, Mapti, Mapi, Movi, Int, Clear, Discard, Inv, Invall, Sync}
-use Rattle.model.specs.declared.Decoded.{Decoded}
-use Rattle.model.specs.declared.Decoded.TheVariants.{Known, Unknown}
 use Rattle.model.specs.declared.Refusal.TheVariants.{NotInWindow}
+use Rattle.model.specs.Answer.{Decoded}
 use Rattle.model.specs.Choose.{if_found}
 use Rattle.model.specs.Config.{queue_base}
 use Rattle.model.specs.Decode.{opcode_of, decode}
@@ -37,14 +36,14 @@ module _ (u : ItsState) (s : ItsRegisters) where
   check_same Sync = refl
 
   decoded_same : (opcode : ℕ) (k : Decoded) → turn_on (with_registers u s) opcode k ≡ turn_on u opcode k
-  decoded_same opcode (Known x) = ap (λ v. judged v x opcode) (check_same x)
-  decoded_same opcode (Unknown n) = refl
+  decoded_same opcode (Ok x) = ap (λ v. judged v x opcode) (check_same x)
+  decoded_same opcode (Err n) = refl
 
   words_same : (o : Option (List ℕ)) →
       if_found o (λ ws. turn_on (with_registers u s) (opcode_of ws) (decode ws)) (stays NotInWindow 0)
       ≡ if_found o (λ ws. turn_on u (opcode_of ws) (decode ws)) (stays NotInWindow 0)
-  words_same none = refl
-  words_same (some ws) = decoded_same (opcode_of ws) (decode ws)
+  words_same None = refl
+  words_same (Some ws) = decoded_same (opcode_of ws) (decode ws)
 
   pub turn_same : (w : Window) → s.cbaser ≡ u.registers.cbaser → s.creadr ≡ u.registers.creadr → turn w (with_registers u s) ≡ turn w u
   unfolding turn

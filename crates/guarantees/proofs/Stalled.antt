@@ -1,12 +1,12 @@
 -- STALLED (02, A4): what a write makes of it, by the way that it goes; over runs of accesses and of calls; where nothing runs; and what CREADR shows.
 -- Assumes nothing.
+use Rattle.std.specs.Prelude.{None, Ok, Option, Some, Err}
 use Prim.Native.Nat.{ℕ, ◌+◌, ◌/◌, ◌%◌, ◌^◌, ◌<◌}
 use native.Mathlib.Omega.{arith}
 use mathlib.Core.Path.{◌≡◌, refl, sym, ap, ap₂, subst, ◌∙◌}
 use mathlib.Core.Bool.{Bool, true, false, ◌&&◌, ◌||◌, not}
 use mathlib.Core.List.{List, [], ◌∷◌}
 use mathlib.Core.Logic.{◌⊎◌, inl, inr, ◌↔◌}
-use mathlib.Core.Option.{Option, none, some}
 use lib.ListN.{length, get_or}
 use lib.Dec.{eqb}
 use borrow.Author.Tests.{eqb-true}
@@ -19,11 +19,8 @@ use Rattle.model.specs.declared.RegisterWrite.{RegisterWrite}
 use Rattle.model.specs.declared.Refusal.{Refusal}
 use Rattle.model.specs.declared.Refusal.TheVariants.{Unsound, RowTooShort, InvalidAccess, Identification, BaseZero, WriterRefused, BudgetExceeded, NotInWindow}
 use Rattle.model.specs.declared.Refusal.TheVariants.{OpcodeUnknown, LpiOutOfRange, DeviceUnmapped, EventBeyondBits, CollectionUnmapped, PairUnmapped, ProcessorUnlisted, DeviceTooLarge, ResourceNotFound, TableFull, LineDoesNotFit}
-use Rattle.model.specs.declared.ReadAnswer.{ReadAnswer}
-use Rattle.model.specs.declared.ReadAnswer.TheVariants.{Value}
-use Rattle.model.specs.declared.WriteAnswer.{WriteAnswer}
-use Rattle.model.specs.declared.WriteAnswer.TheVariants.{Taken, NotTaken}
 use Rattle.model.specs.declared.Written.{Written}
+use Rattle.model.specs.Answer.{ReadAnswer, WriteAnswer, write_refused}
 use Rattle.model.specs.Choose.{if_found, is_found}
 use Rattle.model.specs.Arm.{◌of◌, CBASER_Valid, CWRITER_Retry, GITS_CWRITER, GITS_CREADR}
 use Rattle.model.specs.Refusal.{number_of, write_numbers}
@@ -34,6 +31,7 @@ use Rattle.model.specs.Queue.{Window, waiting, Stop, Ran, run, stall, held}
 use Rattle.model.specs.Register.{one_if, is_stalled, creadr_value, read_part}
 use Rattle.model.specs.Access.{check_read}
 use Rattle.model.specs.Entry.{Outcome, configure, stores, read_from, read}
+use Rattle.model.specs.Writing.{then_runs}
 use Rattle.model.proofs.Cases.{cases, never, and_left, and_right}
 use Rattle.model.proofs.Profiles.{or_on, is_strict_lem, is_base, may_clear, creadr_plain}
 use Rattle.model.proofs.Registers.{unread_reads, unread_translates, unread_writes, unread_made}
@@ -90,29 +88,29 @@ module _ (w : Window) (row : List ItsAction) (u : ItsState) (offset width value 
     kept : RunKeeps w (waiting s) (with_registers u s) q
     kept = run_keeps w (waiting s) (with_registers u s) (reader_below s g.ring)
 
-    of_command_lem : (o : Option Stop) → q.stopped ≡ o → (z : Stop) → o ≡ some z → given_at z.refusal ≡ at_command
+    of_command_lem : (o : Option Stop) → q.stopped ≡ o → (z : Stop) → o ≡ Some z → given_at z.refusal ≡ at_command
     of_command_lem o e z h = (staying q.unit w z.refusal z.opcode (kept.refused z (e ∙ h))).0
 
-    accepted_for : (o : Option Stop) → ((z : Stop) → o ≡ some z → given_at z.refusal ≡ at_command) → accepted (answerFor q o) ≡ true
-    accepted_for none h = refl
-    accepted_for (some z) h = rw (h z refl)
+    accepted_for : (o : Option Stop) → ((z : Stop) → o ≡ Some z → given_at z.refusal ≡ at_command) → accepted (answerFor q o) ≡ true
+    accepted_for None h = refl
+    accepted_for (Some z) h = rw (h z refl)
 
-    stopped_for : (o : Option Stop) → ((z : Stop) → o ≡ some z → given_at z.refusal ≡ at_command) → stopped (answerFor q o) ≡ is_found o
-    stopped_for none h = refl
-    stopped_for (some z) h = rw (h z refl)
+    stopped_for : (o : Option Stop) → ((z : Stop) → o ≡ Some z → given_at z.refusal ≡ at_command) → stopped (answerFor q o) ≡ is_found o
+    stopped_for None h = refl
+    stopped_for (Some z) h = rw (h z refl)
 
     stays : q.unit.registers.stalled ≡ s.stalled
     stays = ap (λ r. r.stalled) kept.registers
 
     bit_for : is_strict u.config.profile ≡ true → (o : Option Stop) → (if_found o (λ z. stall q.unit) q.unit).registers.stalled ≡ (is_found o || s.stalled)
     unfolding stall
-    bit_for y none = stays
-    bit_for y (some z) = rw (kept.config, y)
+    bit_for y None = stays
+    bit_for y (Some z) = rw (kept.config, y)
 
     base_for : is_strict u.config.profile ≡ false → (o : Option Stop) → (if_found o (λ z. stall q.unit) q.unit).registers.stalled ≡ s.stalled
     unfolding stall
-    base_for n none = stays
-    base_for n (some z) = rw (kept.config, n) stays
+    base_for n None = stays
+    base_for n (Some z) = rw (kept.config, n) stays
 
   -- accepted or not, as the answer says and as what is stored says
   pub accepted_by : {s : RegisterWrite} {o : Outcome} → Way w row u offset width value s o → accepted o.written.answer ≡ is_taken s.answer
@@ -199,7 +197,7 @@ module _ (w : Window) (row : List ItsAction) (u : ItsState) (offset width value 
             ap (λ z. z.unit.registers.stalled) ((refusal_kept w row u offset width value r left e).before_all why place opcode at done actions h)
         entry why (inr place) opcode at done actions h =
             let same : WriterRefused ≡ why = by_place why place in
-            ap (λ z. z.unit.registers.stalled) ((refusal_kept w row u offset width value r left e).writer opcode at done actions (h ∙ ap (λ y. NotTaken y opcode at done actions) (sym same))).1
+            ap (λ z. z.unit.registers.stalled) ((refusal_kept w row u offset width value r left e).writer opcode at done actions (h ∙ ap (λ y. write_refused y opcode at done actions) (sym same))).1
 
 -- OVER RUNS.
 
@@ -259,8 +257,8 @@ place_told TableFull = (refl, refl)
 place_told LineDoesNotFit = (refl, refl)
 
 mark_told_lem : (u : ItsState) (offset value : ℕ) (a : WriteAnswer) → mark_by (stopped_told (write_numbers a).refusal) (accepted_told (write_numbers a).refusal) u offset value ≡ mark_of u offset value a
-mark_told_lem u offset value (Taken done actions) = refl
-mark_told_lem u offset value (NotTaken why opcode at done actions) = ap₂ (λ x y. mark_by x y u offset value) (place_told why).0 (place_told why).1
+mark_told_lem u offset value (Ok w) = refl
+mark_told_lem u offset value (Err w) = ap₂ (λ x y. mark_by x y u offset value) (place_told w.refusal).0 (place_told w.refusal).1
 
 bit_told : {k : ItsConfig} {u : ItsState} {h : List Command} (l : LedByCalls k u h) → profile_of k ≡ strict → u.registers.stalled ≡ last_of (trail_told l)
 bit_told (by_its_configure ss ps e u r told c z) y = ap (λ v. v.registers.stalled) c.0 ∙ fresh_clear _
@@ -280,12 +278,12 @@ calls_stalled_exactly l y =
 -- NOTHING RUNS in a stalled unit, but with Retry.
 module _ (w : Window) (row : List ItsAction) (u : ItsState) (offset width value : ℕ) where
   pub stalled_stores : (r : Written) (left : List ItsAction) → Writes w row u offset width value r left → profile_of u.config ≡ strict → u.registers.stalled ≡ true →
-      (stores row u offset width value).runs ≡ true → (offset ≡ GITS_CWRITER → CWRITER_Retry of value ≡ 0) → OnlyStores row u (stores row u offset width value) r left
+      then_runs (stores row u offset width value) ≡ true → (offset ≡ GITS_CWRITER → CWRITER_Retry of value ≡ 0) → OnlyStores row u (stores row u offset width value) r left
   unfolding held
   stalled_stores r left e y stalled runs no_retry =
       let s = stores row u offset width value in
       let there = way w row u offset width value in
-      let no_base : s.rebased ≡ false = cases s.rebased (λ b. never s.runs runs (base_quiet w row u offset width value there b)) (λ n. n) in
+      let no_base : s.rebased ≡ false = cases s.rebased (λ b. never (then_runs s) runs (base_quiet w row u offset width value there b)) (λ n. n) in
       let no_bit : (eqb offset GITS_CWRITER && eqb (CWRITER_Retry of value) 1) ≡ false = cases (eqb offset GITS_CWRITER) (λ at. rw (at, no_retry (eqb-true offset GITS_CWRITER at))) (λ n. rw n) in
       let stays : s.registers.stalled ≡ true = stored_stalled_lem u offset width value row ∙ rw (is_strict_lem u.config y, no_base, runs, no_bit, stalled) refl in
       rw (e.answer, e.row_is)
@@ -296,7 +294,7 @@ module _ (u : ItsState) (sound : sound_unit u ≡ true) where
   ring_of : sound_ring u.registers ≡ true
   ring_of = and_right (sound_config u.config) _ sound
 
-  read_so : (width : ℕ) → (width ≡ 8) ⊎ (width ≡ 4) → read u GITS_CREADR width ≡ Value (read_part GITS_CREADR width (creadr_value u.config u.registers))
+  read_so : (width : ℕ) → (width ≡ 8) ⊎ (width ≡ 4) → read u GITS_CREADR width ≡ Ok (read_part GITS_CREADR width (creadr_value u.config u.registers))
   unfolding read_from check_read
   read_so width h = rw (sound, creadr_taken u.config (and_left (sound_config u.config) _ sound) width h, at_creadr)
 
@@ -309,8 +307,8 @@ module _ (u : ItsState) (sound : sound_unit u ≡ true) where
   small : u.registers.creadr + 1 < 2 ^ 32
   small = omega (arith, reader_below u.registers ring_of)
 
-  shows : (v : ℕ) → v < 2 ^ 32 → creadr_value u.config u.registers ≡ v → (width : ℕ) → (width ≡ 8) ⊎ (width ≡ 4) → (r : ReadAnswer) → Reads u GITS_CREADR width r → r ≡ Value v
-  shows v l is width h r e = e.answer ∙ (read_so width h ∙ ap Value (ap (read_part GITS_CREADR width) is ∙ part_so v l width h))
+  shows : (v : ℕ) → v < 2 ^ 32 → creadr_value u.config u.registers ≡ v → (width : ℕ) → (width ≡ 8) ⊎ (width ≡ 4) → (r : ReadAnswer) → Reads u GITS_CREADR width r → r ≡ Ok v
+  shows v l is width h r e = e.answer ∙ (read_so width h ∙ ap Ok (ap (read_part GITS_CREADR width) is ∙ part_so v l width h))
 
   value_strict : is_strict u.config.profile ≡ true → creadr_value u.config u.registers ≡ u.registers.creadr + one_if u.registers.stalled
   unfolding creadr_value
@@ -329,11 +327,11 @@ module _ (u : ItsState) (sound : sound_unit u ≡ true) where
   value_small =
       cases (is_stalled u.config u.registers) (λ on. rw on (omega (arith, small, reader_whole u.registers ring_of))) (λ no. rw no (omega (arith, small)))
 
-  high_so : read u (GITS_CREADR + 4) 4 ≡ Value 0
+  high_so : read u (GITS_CREADR + 4) 4 ≡ Ok 0
   unfolding read_from check_read read_part
   high_so =
-      let none : creadr_value u.config u.registers / 2 ^ 32 % 2 ^ 32 ≡ 0 = omega (arith, value_small) in
-      rw (sound, creadr_high_taken u.config (and_left (sound_config u.config) _ sound), at_creadr_high, none)
+      let None : creadr_value u.config u.registers / 2 ^ 32 % 2 ^ 32 ≡ 0 = omega (arith, value_small) in
+      rw (sound, creadr_high_taken u.config (and_left (sound_config u.config) _ sound), at_creadr_high, None)
 
   pub stalled_shown : StalledShown u
   stalled_shown =

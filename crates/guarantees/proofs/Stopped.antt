@@ -9,7 +9,7 @@ use Rattle.model.specs.declared.ItsRegisters.{ItsRegisters}
 use Rattle.model.specs.declared.ItsState.{ItsState}
 use Rattle.model.specs.declared.ItsAction.{ItsAction}
 use Rattle.model.specs.declared.Refusal.{Refusal}
-use Rattle.model.specs.declared.WriteAnswer.TheVariants.{Taken, NotTaken}
+use Rattle.model.specs.Answer.{write_refused, write_taken}
 use Rattle.model.specs.Refusal.{write_numbers}
 use Rattle.model.specs.With.{with_registers, with_stalled, unit_stalled}
 use Rattle.model.specs.Queue.{Window, waiting, turn, Ran, run, halting, may_run}
@@ -50,8 +50,8 @@ module _ (w : Window) (row : List ItsAction) (u : ItsState) (offset width value 
   passed n = sym (passed_same w s u.registers g.base g.reader n)
 
   -- It stopped: the command on which CREADR stands is refused, for one of a command's reasons.
-  module _ (why : Refusal) (opcode at done actions : ℕ) (h : answer_of (halting q) ≡ NotTaken why opcode at done actions) where
-    told : answer_of q ≡ NotTaken why opcode at done actions
+  module _ (why : Refusal) (opcode at done actions : ℕ) (h : answer_of (halting q) ≡ write_refused why opcode at done actions) where
+    told : answer_of q ≡ write_refused why opcode at done actions
     told = sym (halted-answer q) ∙ h
 
     pub stop_kind : given_at why ≡ at_command
@@ -70,7 +70,7 @@ module _ (w : Window) (row : List ItsAction) (u : ItsState) (offset width value 
         }
 
   -- it did not stop: no command is left
-  pub none_left : (done actions : ℕ) → answer_of (halting q) ≡ Taken done actions → (halting q).unit.registers.creadr ≡ s.cwriter
+  pub none_left : (done actions : ℕ) → answer_of (halting q) ≡ write_taken done actions → (halting q).unit.registers.creadr ≡ s.cwriter
   none_left done actions h =
       ap (λ z. z.registers.creadr) halted
       ∙ (ap (λ r. r.creadr) keeps.registers

@@ -1,5 +1,6 @@
 -- Whole traces, record by record: those of base are 01's, and where the profiles agree both have the same lines. Then of its_trace.
 -- Assumes nothing.
+use Rattle.std.specs.Prelude.{Err, Ok}
 use Prim.Native.Nat.{ℕ, zero, suc, ◌+◌}
 use mathlib.Core.Path.{◌≡◌, refl, sym, ap, ap₂, ◌∙◌}
 use mathlib.Core.Bool.{true, false}
@@ -8,8 +9,7 @@ use lib.ListN.{length, drop}
 use mathlib.Core.Logic.{◌⊎◌, inl, inr}
 use Rattle.model.specs.declared.ItsConfig.{ItsConfig}
 use Rattle.model.specs.declared.ItsState.{ItsState}
-use Rattle.model.specs.declared.Verdict.{Verdict}
-use Rattle.model.specs.declared.Verdict.TheVariants.{Accepted, Refused}
+use Rattle.model.specs.Answer.{Verdict}
 use Rattle.model.specs.With.{with_profile}
 use Rattle.model.specs.Refusal.{verdict_number}
 use Rattle.model.specs.Config.{sound_config, answers_no_unit}
@@ -70,9 +70,9 @@ is_base : (k : ItsConfig) → k.profile ≡ 0 → k ≡ with_profile k 0
 is_base k b = ap (with_profile k) b
 
 -- a refused configuration gives no unit
-none_refused : (k : ItsConfig) (why : _) → (configure k).verdict ≡ Refused why → (configure k).unit ≡ answers_no_unit
+none_refused : (k : ItsConfig) (why : _) → (configure k).verdict ≡ Err why → (configure k).unit ≡ answers_no_unit
 unfolding configure
-none_refused k why a = cases (sound_config k) (λ y. let z : Accepted ≡ Refused why = rw y at a in never true refl (cc)) (λ n. rw n)
+none_refused k why a = cases (sound_config k) (λ y. let z : ◌≡◌ {A = Verdict} (Ok tt) (Err why) = rw y at a in never true refl (cc)) (λ n. rw n)
 
 -- a configuration: both are accepted, and the units are alike, or both are refused, and there is no unit
 both_configured : (k : ItsConfig) → k.profile ≡ 0 → (w w' : Window) → w' ≡ w →
@@ -81,8 +81,8 @@ both_configured k b w w' e = (e, by_verdict (configure (with_profile k 0)).verdi
   where
     by_verdict : (v : Verdict) → (configure (with_profile k 0)).verdict ≡ v →
         ((configure (with_profile k 1)).unit ≡ (configure k).unit) ⊎ (Clear (configure k).unit × ((configure (with_profile k 1)).unit ≡ in_profile 1 (configure k).unit))
-    by_verdict Accepted a = inr ((configured_base k b, fresh_clear k), same_fresh k a ∙ ap (λ z. in_profile 1 (configure z).unit) (sym (is_base k b)))
-    by_verdict (Refused why) a =
+    by_verdict (Ok _) a = inr ((configured_base k b, fresh_clear k), same_fresh k a ∙ ap (λ z. in_profile 1 (configure z).unit) (sym (is_base k b)))
+    by_verdict (Err why) a =
         inl (none_refused (with_profile k 1) why (same_verdict k ∙ a) ∙ sym (none_refused k why (ap (λ z. (configure z).verdict) (is_base k b) ∙ a)))
 
 -- base never writes Stalled

@@ -6,9 +6,8 @@ use Rattle.model.specs.declared.ItsDeviceId.{ItsDeviceId}
 use Rattle.model.specs.declared.EventId.{EventId}
 use Rattle.model.specs.declared.ItsState.{ItsState}
 use Rattle.model.specs.declared.ItsAction.{ItsAction}
-use Rattle.model.specs.declared.ReadAnswer.{ReadAnswer}
-use Rattle.model.specs.declared.TranslateAnswer.{TranslateAnswer}
 use Rattle.model.specs.declared.Written.{Written}
+use Rattle.model.specs.Answer.{ReadAnswer, TranslateAnswer}
 use Rattle.model.specs.Queue.{Window}
 use Rattle.model.specs.Trace.{Record, CF, GM, RD, WR, TR, Running, lent_row, lines_of}
 use Rattle.its.specs.Promises.{Reads, Writes, Translates}

@@ -1,15 +1,12 @@
 -- Document 01, "The trace": the example, call by call, so that neither demand is empty, and after it 01's last corner, a refused write that hands over an
 -- action (02, A2). Beside each call stands the line that the trace prints of it.
 -- Assumes nothing.
-use Rattle.std.specs.Prelude.{ℕ, true, false, List, [], ◌∷◌, replicate}
+use Rattle.std.specs.Prelude.{ℕ, true, false, List, [], ◌∷◌, replicate, Err, Ok}
 use Rattle.model.specs.declared.ItsState.{ItsState}
 use Rattle.model.specs.declared.ItsAction.{ItsAction}
 use Rattle.model.specs.declared.Command.TheVariants.{Int}
 use Rattle.model.specs.declared.Refusal.TheVariants.{OpcodeUnknown, ResourceNotFound}
-use Rattle.model.specs.declared.Verdict.TheVariants.{Accepted}
-use Rattle.model.specs.declared.ReadAnswer.TheVariants.{Value}
-use Rattle.model.specs.declared.WriteAnswer.TheVariants.{Taken, NotTaken}
-use Rattle.model.specs.declared.TranslateAnswer.TheVariants.{Delivered, NotDelivered}
+use Rattle.model.specs.Answer.{write_refused, write_taken}
 use Rattle.model.specs.Arm.{GITS_CTLR, GITS_CBASER, GITS_CWRITER, GITS_CREADR}
 use Rattle.model.specs.Keys.{delivery}
 use Rattle.model.specs.Queue.{Window}
@@ -55,25 +52,25 @@ pub record ExampleByEntries : Type 0 where
   pub ended : ItsState
   pub stopped : ItsState
   -- CF 0
-  pub cf : Configures (with_limit 65535) (record { unit = fresh; verdict = Accepted })
+  pub cf : Configures (with_limit 65535) (record { unit = fresh; verdict = Ok tt })
   -- WR 0 0 0 0 0
-  pub wr_cbaser : Writes window row fresh GITS_CBASER 8 0x8000000040000000 (record { unit = based; answer = Taken 0 0 }) row
+  pub wr_cbaser : Writes window row fresh GITS_CBASER 8 0x8000000040000000 (record { unit = based; answer = write_taken 0 0 }) row
   -- RD 0 1073741824
-  pub rd_cbaser : Reads based GITS_CBASER 4 (Value 1073741824)
+  pub rd_cbaser : Reads based GITS_CBASER 4 (Ok 1073741824)
   -- WR 0 0 0 0 0
-  pub wr_ctlr : Writes window row based GITS_CTLR 4 1 (record { unit = enabled; answer = Taken 0 0 }) row
+  pub wr_ctlr : Writes window row based GITS_CTLR 4 1 (record { unit = enabled; answer = write_taken 0 0 }) row
   -- WR 0 0 0 4 1 and AC 1 8200 1
-  pub wr_cwriter : Writes window row enabled GITS_CWRITER 8 128 (record { unit = ended; answer = Taken 4 1 }) row_left
+  pub wr_cwriter : Writes window row enabled GITS_CWRITER 8 128 (record { unit = ended; answer = write_taken 4 1 }) row_left
   -- RD 0 128
-  pub rd_creadr : Reads ended GITS_CREADR 8 (Value 128)
+  pub rd_creadr : Reads ended GITS_CREADR 8 (Ok 128)
   -- TR 0 8200 1
-  pub tr_5_9 : Translates ended (record { 0 = 5 }) (record { 0 = 9 }) (Delivered (delivery (record { 0 = 8200 }) (record { 0 = 1 })))
+  pub tr_5_9 : Translates ended (record { 0 = 5 }) (record { 0 = 9 }) (Ok (delivery (record { 0 = 8200 }) (record { 0 = 1 })))
   -- TR 8 0 0
-  pub tr_5_8 : Translates ended (record { 0 = 5 }) (record { 0 = 8 }) (NotDelivered ResourceNotFound)
+  pub tr_5_8 : Translates ended (record { 0 = 5 }) (record { 0 = 8 }) (Err ResourceNotFound)
   -- such calls lead to that unit, and carry out the four commands
   pub led : Led (with_limit 65535) ended example_met
   -- WR 20 14 160 1 1 and AC 1 8200 1
-  pub wr_corner : Writes corner_window row ended GITS_CWRITER 8 192 (record { unit = stopped; answer = NotTaken OpcodeUnknown 14 160 1 1 }) row_left
+  pub wr_corner : Writes corner_window row ended GITS_CWRITER 8 192 (record { unit = stopped; answer = write_refused OpcodeUnknown 14 160 1 1 }) row_left
   -- the INT is carried out, and the command behind it is not
   pub led_on : Led (with_limit 65535) stopped (Int (record { 0 = 5 }) (record { 0 = 9 }) ∷ example_met)
 

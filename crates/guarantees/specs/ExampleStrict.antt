@@ -1,11 +1,10 @@
 -- 01's example in both profiles, so that neither the common statement nor demand 3 in strict is empty (02, A3); after it, in strict, device 5 mapped again;
 -- and then a command that stalls the unit, and Retry (02, A4). Beside each call stands the line that the trace prints of it (model: Example.strict_trace).
 -- Assumes nothing.
-use Rattle.std.specs.Prelude.{◌≡◌, true, false, [], ◌∷◌}
+use Rattle.std.specs.Prelude.{◌≡◌, true, false, [], ◌∷◌, Err, Ok}
 use Rattle.model.specs.declared.ItsState.{ItsState}
 use Rattle.model.specs.declared.Refusal.TheVariants.{OpcodeUnknown, ResourceNotFound}
-use Rattle.model.specs.declared.WriteAnswer.TheVariants.{Taken, NotTaken}
-use Rattle.model.specs.declared.TranslateAnswer.TheVariants.{Delivered, NotDelivered}
+use Rattle.model.specs.Answer.{write_refused, write_taken}
 use Rattle.model.specs.Arm.{GITS_CWRITER}
 use Rattle.model.specs.Keys.{delivery}
 use Rattle.model.specs.Queue.{Window}
@@ -33,21 +32,21 @@ pub record ExampleStrict : Type 0 where
   pub ended_strict : ItsState
   pub alike : LedAlike (with_limit 65535) ended ended_strict
   -- TR 0 8200 1, of both: the four commands were carried out
-  pub tr_base : Translates ended (record { 0 = 5 }) (record { 0 = 9 }) (Delivered (delivery (record { 0 = 8200 }) (record { 0 = 1 })))
-  pub tr_strict : Translates ended_strict (record { 0 = 5 }) (record { 0 = 9 }) (Delivered (delivery (record { 0 = 8200 }) (record { 0 = 1 })))
+  pub tr_base : Translates ended (record { 0 = 5 }) (record { 0 = 9 }) (Ok (delivery (record { 0 = 8200 }) (record { 0 = 1 })))
+  pub tr_strict : Translates ended_strict (record { 0 = 5 }) (record { 0 = 9 }) (Ok (delivery (record { 0 = 8200 }) (record { 0 = 1 })))
   -- WR 0 0 0 1 0: device 5 is mapped again
   pub again : ItsState
-  pub wr_again : Writes again_window row ended_strict GITS_CWRITER 8 160 (record { unit = again; answer = Taken 1 0 }) row
+  pub wr_again : Writes again_window row ended_strict GITS_CWRITER 8 160 (record { unit = again; answer = write_taken 1 0 }) row
   -- such calls lead to that unit in strict
   pub led : Led (configured 65535 1) again (mapd 4 ∷ example_met)
   -- TR 8 0 0: a late message of the pair
-  pub tr_late : Translates again (record { 0 = 5 }) (record { 0 = 9 }) (NotDelivered ResourceNotFound)
+  pub tr_late : Translates again (record { 0 = 5 }) (record { 0 = 9 }) (Err ResourceNotFound)
   -- WR 20 14 160 0 0: the opcode 0E stops the ring, and the unit is stalled
   pub stopped : ItsState
-  pub wr_stopped : Writes stop_window row again GITS_CWRITER 8 192 (record { unit = stopped; answer = NotTaken OpcodeUnknown 14 160 0 0 }) row
+  pub wr_stopped : Writes stop_window row again GITS_CWRITER 8 192 (record { unit = stopped; answer = write_refused OpcodeUnknown 14 160 0 0 }) row
   pub led_stopped : Led (configured 65535 1) stopped (mapd 4 ∷ example_met)
   pub stalled_there : stopped.registers.stalled ≡ true
   -- WR 0 0 0 1 0: 192 with Retry goes on, and the unit is no longer stalled
   pub went_on : ItsState
-  pub wr_retry : Writes sync_window row stopped GITS_CWRITER 8 193 (record { unit = went_on; answer = Taken 1 0 }) row
+  pub wr_retry : Writes sync_window row stopped GITS_CWRITER 8 193 (record { unit = went_on; answer = write_taken 1 0 }) row
   pub is_clear : went_on.registers.stalled ≡ false

@@ -7,8 +7,8 @@ use Rattle.model.specs.declared.ItsAction.{ItsAction}
 use Rattle.model.specs.declared.RegisterWrite.{RegisterWrite}
 use Rattle.model.specs.declared.Refusal.{Refusal}
 use Rattle.model.specs.declared.Refusal.TheVariants.{BudgetExceeded}
-use Rattle.model.specs.declared.WriteAnswer.TheVariants.{NotTaken}
 use Rattle.model.specs.declared.Written.{Written}
+use Rattle.model.specs.Answer.{write_refused}
 use Rattle.model.specs.Choose.{if_found}
 use Rattle.model.specs.Arm.{command_size}
 use Rattle.model.specs.With.{with_registers, with_stalled, with_reader, unit_stalled}
@@ -63,7 +63,7 @@ pub record CommandRefused (w : Window) (u : ItsState) (s : RegisterWrite) (r : W
 
 -- more commands wait than the budget: only what the write stores changed; the offset is CREADR, which did not move, and nothing is handed over
 abbrev pub OnlyStored : ItsState → RegisterWrite → Written → Type 0
-OnlyStored u s r = r ≡ record { unit = with_registers u s.registers; answer = NotTaken BudgetExceeded 0 u.registers.creadr 0 0 }
+OnlyStored u s r = r ≡ record { unit = with_registers u s.registers; answer = write_refused BudgetExceeded 0 u.registers.creadr 0 0 }
 
 -- A REFUSAL, of every unit.
 pub record RefusalFollows (w : Window) (row : List ItsAction) (u : ItsState) (s : RegisterWrite) (r : Written) (left : List ItsAction) : Type 0 where

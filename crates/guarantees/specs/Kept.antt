@@ -9,13 +9,14 @@ use Rattle.model.specs.declared.Register.TheVariants.{Cwriter}
 use Rattle.model.specs.declared.RegisterWrite.{RegisterWrite}
 use Rattle.model.specs.declared.Refusal.{Refusal}
 use Rattle.model.specs.declared.Refusal.TheVariants.{WriterRefused, BudgetExceeded, LineDoesNotFit}
-use Rattle.model.specs.declared.WriteAnswer.TheVariants.{Taken, NotTaken}
 use Rattle.model.specs.declared.Written.{Written}
+use Rattle.model.specs.Answer.{write_refused, write_taken}
 use Rattle.model.specs.With.{with_registers, unit_stalled}
 use Rattle.model.specs.Config.{sound_unit}
 use Rattle.model.specs.Queue.{Window, waiting, stays, turn, may_run}
 use Rattle.model.specs.Register.{register_at}
 use Rattle.model.specs.Passed.{CarriedOut}
+use Rattle.model.specs.Writing.{then_runs}
 use Rattle.guarantees.specs.Actions.{done_in, actions_in, passed_by}
 use Rattle.guarantees.specs.Refusals.{at_entry, at_command, given_at, writer_by, IfRefused}
 
@@ -27,7 +28,7 @@ pub record RingKept (u : ItsState) (s : RegisterWrite) (r : Written) : Type 0 wh
   pub at_most : done_in r ≤ waiting s.registers
   -- a write that lets no queue run does none, nor does one after which the queue may not run: the unit is disabled, or in strict CBASER's bit 63 is 0 or
   -- the unit stalled
-  pub not_run : s.runs ≡ false → done_in r ≡ 0
+  pub not_run : then_runs s ≡ false → done_in r ≡ 0
   pub may_not : may_run u.config s.registers ≡ false → done_in r ≡ 0
 
 -- THE COMMANDS, of every unit, and of a write that is refused too.
@@ -51,7 +52,7 @@ pub record CommandsKept (w : Window) (row : List ItsAction) (u : ItsState) (s : 
 -- The command on which CREADR stands was refused, the first one or a later one: the reason why, the opcode and the offset answered are its own.
 pub record StopsAt (w : Window) (s : RegisterWrite) (r : Written) (why : Refusal) (opcode at : ℕ) : Type 0 where
   -- the queue was let run, and may run
-  pub lets_run : s.runs ≡ true
+  pub lets_run : then_runs s ≡ true
   pub may : may_run r.unit.config s.registers ≡ true
   -- the command waits still
   pub waits : 0 < waiting r.unit.registers
@@ -63,21 +64,21 @@ pub record StopsAt (w : Window) (s : RegisterWrite) (r : Written) (why : Refusal
 -- REFUSAL AND ANSWER, of every unit, by the place where a refusal is given (Refusals.given_at). offset, width and value are those of the write.
 pub record RefusalKept (w : Window) (u : ItsState) (offset width value : ℕ) (s : RegisterWrite) (r : Written) : Type 0 where
   -- 1, 10, 2, 3, 4: the unit is unchanged; opcode, offset, done and actions are 0
-  pub before_all : (why : Refusal) → given_at why ≡ at_entry → IfRefused r why (λ opcode at done actions. r ≡ record { unit = u; answer = NotTaken why 0 0 0 0 })
+  pub before_all : (why : Refusal) → given_at why ≡ at_entry → IfRefused r why (λ opcode at done actions. r ≡ record { unit = u; answer = write_refused why 0 0 0 0 })
   -- 7, of CWRITER: the same, but the offset is the refused writer
   pub writer : IfRefused r WriterRefused (λ opcode at done actions.
-      (register_at offset ≡ Cwriter) × (r ≡ record { unit = u; answer = NotTaken WriterRefused 0 (writer_by u offset width value) 0 0 }))
+      (register_at offset ≡ Cwriter) × (r ≡ record { unit = u; answer = write_refused WriterRefused 0 (writer_by u offset width value) 0 0 }))
   -- 5 is tested once, before any command: where more wait than the budget, that is the answer; the offset is CREADR, nothing is done, nothing handed
   -- over, and nothing but what the write stores changed
-  pub too_many : s.runs ≡ true → may_run u.config s.registers ≡ true → u.config.command_budget < waiting s.registers →
-      r ≡ record { unit = with_registers u s.registers; answer = NotTaken BudgetExceeded 0 s.registers.creadr 0 0 }
+  pub too_many : then_runs s ≡ true → may_run u.config s.registers ≡ true → u.config.command_budget < waiting s.registers →
+      r ≡ record { unit = with_registers u s.registers; answer = write_refused BudgetExceeded 0 s.registers.creadr 0 0 }
   -- and 5 is answered only then
   pub only_then : IfRefused r BudgetExceeded (λ opcode at done actions.
-      (s.runs ≡ true) × (may_run u.config s.registers ≡ true) × (u.config.command_budget < waiting s.registers))
+      (then_runs s ≡ true) × (may_run u.config s.registers ≡ true) × (u.config.command_budget < waiting s.registers))
   -- 20 to 27, 6, 8 and 9: of a command
   pub at_a_command : (why : Refusal) → given_at why ≡ at_command → IfRefused r why (λ opcode at done actions. StopsAt w s r why opcode at)
   -- 11 is the C call's: no write answers it
   pub never_11 : IfRefused r LineDoesNotFit (λ opcode at done actions. ⊥)
   -- a write that is taken and lets a queue run that may leaves no command waiting
-  pub taken : (done actions : ℕ) → r.answer ≡ Taken done actions → s.runs ≡ true → may_run u.config s.registers ≡ true →
+  pub taken : (done actions : ℕ) → r.answer ≡ write_taken done actions → then_runs s ≡ true → may_run u.config s.registers ≡ true →
       r.unit.registers.creadr ≡ s.registers.cwriter

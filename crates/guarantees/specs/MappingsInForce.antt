@@ -2,7 +2,7 @@
 -- when the commands carried out so far put that pair in force, and to the LPI and processor that those commands give. Nothing here speaks of a
 -- definition of an access: each access is any answer that meets the entry's contract (crates/its/specs/Promises.antt).
 -- Assumes nothing.
-use Rattle.std.specs.Prelude.{ℕ, ◌≤◌, ◌<◌, ◌≡◌, true, List, [], ◌++◌, ◌↔◌}
+use Rattle.std.specs.Prelude.{ℕ, ◌≤◌, ◌<◌, ◌≡◌, true, List, [], ◌++◌, ◌↔◌, Err, Ok}
 use Rattle.model.specs.declared.ItsDeviceId.{ItsDeviceId}
 use Rattle.model.specs.declared.EventId.{EventId}
 use Rattle.model.specs.declared.CollectionId.{CollectionId}
@@ -14,12 +14,9 @@ use Rattle.model.specs.declared.ItsAction.{ItsAction}
 use Rattle.model.specs.declared.Command.{Command}
 use Rattle.model.specs.declared.Refusal.{Refusal}
 use Rattle.model.specs.declared.Refusal.TheVariants.{ResourceNotFound}
-use Rattle.model.specs.declared.Verdict.TheVariants.{Accepted}
-use Rattle.model.specs.declared.ReadAnswer.{ReadAnswer}
-use Rattle.model.specs.declared.TranslateAnswer.{TranslateAnswer}
-use Rattle.model.specs.declared.TranslateAnswer.TheVariants.{Delivered, NotDelivered}
 use Rattle.model.specs.declared.Configured.{Configured}
 use Rattle.model.specs.declared.Written.{Written}
+use Rattle.model.specs.Answer.{ReadAnswer, TranslateAnswer}
 use Rattle.model.specs.Refusal.{translate_numbers}
 use Rattle.model.specs.Keys.{delivery}
 use Rattle.model.specs.Config.{sound_unit}
@@ -37,7 +34,7 @@ use Rattle.guarantees.specs.Kept.{CommandsKept}
 -- one first. Every answer is one that meets the entry's contract.
 pub data Led (k : ItsConfig) : ItsState → List Command → Type 0 where
   -- an accepted configuration, and no command yet
-  begins : (c : Configured) → Configures k c → c.verdict ≡ Accepted → Led k c.unit []
+  begins : (c : Configured) → Configures k c → c.verdict ≡ Ok tt → Led k c.unit []
   -- a read leaves the unit as it is
   a_read : {u : ItsState} {h : List Command} → Led k u h → (offset width : ℕ) (r : ReadAnswer) → Reads u offset width r → Led k u h
   -- and so does a translation
@@ -61,15 +58,15 @@ pub record MappingsInForce (k : ItsConfig) (u : ItsState) (h : List Command) : T
   pub sound : sound_unit u ≡ true
   -- a pair translates exactly where the commands of the history send it, and to the LPI and processor that they give
   pub translates : (d : ItsDeviceId) (e : EventId) (r : TranslateAnswer) → Translates u d e r →
-      (l : LpiId) (p : GicVcpuId) → (r ≡ Delivered (delivery l p)) ↔ SentTo (profile_of k) h d e l p
+      (l : LpiId) (p : GicVcpuId) → (r ≡ Ok (delivery l p)) ↔ SentTo (profile_of k) h d e l p
   -- it is refused with 8 exactly where the pair is not in force
   pub nowhere : (d : ItsDeviceId) (e : EventId) (r : TranslateAnswer) → Translates u d e r →
-      (r ≡ NotDelivered ResourceNotFound) ↔ ((l : LpiId) (c : CollectionId) → InForce (profile_of k) h d e l c → ⊥)
+      (r ≡ Err ResourceNotFound) ↔ ((l : LpiId) (c : CollectionId) → InForce (profile_of k) h d e l c → ⊥)
   -- a translation has no other refusal
-  pub only_8 : (d : ItsDeviceId) (e : EventId) (r : TranslateAnswer) → Translates u d e r → (why : Refusal) → r ≡ NotDelivered why → why ≡ ResourceNotFound
+  pub only_8 : (d : ItsDeviceId) (e : EventId) (r : TranslateAnswer) → Translates u d e r → (why : Refusal) → r ≡ Err why → why ≡ ResourceNotFound
   -- and the numbers of a refused one are 8, 0, 0
   pub numbers : (d : ItsDeviceId) (e : EventId) (r : TranslateAnswer) → Translates u d e r →
-      (why : Refusal) → r ≡ NotDelivered why → translate_numbers r ≡ record { refusal = 8; lpi = 0; processor = 0 }
+      (why : Refusal) → r ≡ Err why → translate_numbers r ≡ record { refusal = 8; lpi = 0; processor = 0 }
   -- of each pair in force the LPI is in range, device and collection are mapped, and the processor is listed
   pub backed : (d : ItsDeviceId) (e : EventId) (l : LpiId) (c : CollectionId) → InForce (profile_of k) h d e l c → Backed k h d l c
   -- in strict besides: each pair in force lies below its device's present capacity (02, A3)
@@ -77,7 +74,7 @@ pub record MappingsInForce (k : ItsConfig) (u : ItsState) (h : List Command) : T
   -- no device above 65535 is mapped
   pub announced : profile_of k ≡ strict → (d : ItsDeviceId) (bits : ℕ) → DeviceMapped h d bits → d.0 ≤ 65535
   -- so a message of one is refused with 8
-  pub not_announced : profile_of k ≡ strict → (d : ItsDeviceId) (e : EventId) (r : TranslateAnswer) → Translates u d e r → 65535 < d.0 → r ≡ NotDelivered ResourceNotFound
+  pub not_announced : profile_of k ≡ strict → (d : ItsDeviceId) (e : EventId) (r : TranslateAnswer) → Translates u d e r → 65535 < d.0 → r ≡ Err ResourceNotFound
   -- 1 is never answered: to no read, no translation and no write (Refusals)
   pub never_1 : NeverOne u
   -- every command that a write passes lay whole in the window, is of one of the kinds and was accepted by the unit that met it (Kept)

@@ -1,7 +1,7 @@
 -- Document 02, A3 and A4, over the contracts of the entries and of the C calls, and over a record of a trace (whole traces: Traces). A base unit is document 01's,
 -- with A1 and A2 and as if there were no profile; and where the profiles agree (model: Common) both answer alike, over whole runs.
 -- Assumes nothing.
-use Rattle.std.specs.Prelude.{ℕ, ◌≡◌, false, ◌&&◌, not, List, [], ◌∷◌, map, eqb}
+use Rattle.std.specs.Prelude.{ℕ, ◌≡◌, false, ◌&&◌, not, List, [], ◌∷◌, map, eqb, Ok}
 use Rattle.model.specs.declared.ItsDeviceId.{ItsDeviceId}
 use Rattle.model.specs.declared.EventId.{EventId}
 use Rattle.model.specs.declared.ItsConfig.{ItsConfig}
@@ -9,12 +9,9 @@ use Rattle.model.specs.declared.ItsRegisters.{ItsRegisters}
 use Rattle.model.specs.declared.ItsState.{ItsState}
 use Rattle.model.specs.declared.ItsAction.{ItsAction}
 use Rattle.model.specs.declared.RegisterWrite.{RegisterWrite}
-use Rattle.model.specs.declared.WriteAnswer.TheVariants.{Taken}
-use Rattle.model.specs.declared.Verdict.TheVariants.{Accepted}
-use Rattle.model.specs.declared.ReadAnswer.{ReadAnswer}
-use Rattle.model.specs.declared.TranslateAnswer.{TranslateAnswer}
 use Rattle.model.specs.declared.Configured.{Configured}
 use Rattle.model.specs.declared.Written.{Written}
+use Rattle.model.specs.Answer.{ReadAnswer, TranslateAnswer, write_taken}
 use Rattle.model.specs.With.{with_registers, with_profile}
 use Rattle.model.specs.Refusal.{verdict_number, read_numbers, translate_numbers}
 use Rattle.model.specs.Arm.{◌of◌, CBASER_Valid, GITS_CREADR}
@@ -81,14 +78,14 @@ pub record StrictAs01 (u : ItsState) : Type 0 where
 
 -- STRICT, of a queue that is held (model: Queue.held), by bit 63 of CBASER or by Stalled: what was written is stored, the answer is 0, and the row stays.
 abbrev pub OnlyStores : List ItsAction → ItsState → RegisterWrite → Written → List ItsAction → Type 0
-OnlyStores row u s r left = (r ≡ record { unit = with_registers u s.registers; answer = Taken 0 0 }) × (left ≡ row)
+OnlyStores row u s r left = (r ≡ record { unit = with_registers u s.registers; answer = write_taken 0 0 }) × (left ≡ row)
 
 -- WHERE THE PROFILES AGREE.
 
 -- `LedAlike k u v`: configured with k in base and in strict, the same accesses led to the unit u and to the unit v. Reads and translations leave a unit as
 -- it is; each write was one on which the profiles agree, seen from the base unit.
 pub data LedAlike (k : ItsConfig) : ItsState → ItsState → Type 0 where
-  both_begin : (c c' : Configured) → Configures (with_profile k 0) c → Configures (with_profile k 1) c' → c.verdict ≡ Accepted → LedAlike k c.unit c'.unit
+  both_begin : (c c' : Configured) → Configures (with_profile k 0) c → Configures (with_profile k 1) c' → c.verdict ≡ Ok tt → LedAlike k c.unit c'.unit
   both_write : {u v : ItsState} → LedAlike k u v → (w : Window) (row : List ItsAction) (offset width value : ℕ) → CommonWrite w row u offset width value →
       (r r' : Written) (left left' : List ItsAction) → Writes w row u offset width value r left → Writes w row v offset width value r' left' →
       LedAlike k r.unit r'.unit

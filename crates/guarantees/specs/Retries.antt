@@ -8,13 +8,13 @@ use Rattle.model.specs.declared.Command.{Command}
 use Rattle.model.specs.declared.RegisterWrite.{RegisterWrite}
 use Rattle.model.specs.declared.Refusal.{Refusal}
 use Rattle.model.specs.declared.Refusal.TheVariants.{BudgetExceeded}
-use Rattle.model.specs.declared.WriteAnswer.TheVariants.{NotTaken}
 use Rattle.model.specs.declared.Written.{Written}
+use Rattle.model.specs.Answer.{write_refused}
 use Rattle.model.specs.Arm.{◌of◌, CWRITER_Retry, GITS_CTLR, GITS_CWRITER}
 use Rattle.model.specs.With.{with_registers, unit_stalled}
 use Rattle.model.specs.Profile.{base, strict, profile_of}
 use Rattle.model.specs.Queue.{Window, waiting, passes, stays, turn, carry_out, stall, may_run}
-use Rattle.model.specs.Writing.{enables}
+use Rattle.model.specs.Writing.{enables, then_runs}
 use Rattle.model.specs.Entry.{stores}
 use Rattle.model.specs.Passed.{CarriedOut}
 use Rattle.its.specs.Promises.{Writes}
@@ -26,7 +26,7 @@ use Rattle.guarantees.specs.Stalled.{accepted}
 -- The write tries its queue. s is what it does to the registers.
 pub record Tries (u : ItsState) (s : RegisterWrite) : Type 0 where
   -- a CTLR write or an accepted CWRITER write, not refused at the entry
-  pub lets_run : s.runs ≡ true
+  pub lets_run : then_runs s ≡ true
   -- the queue may run then: the unit is enabled, and in strict CBASER's bit 63 is set and the unit not stalled, or no longer
   pub may : may_run u.config s.registers ≡ true
   -- commands wait
@@ -51,13 +51,13 @@ pub record TriesAgain (w : Window) (row : List ItsAction) (u : ItsState) (s : Re
   -- where the unit refuses it, that is the answer: its reason and opcode, CREADR, nothing done and nothing handed over; only the register written changes,
   -- and in strict the unit is stalled
   pub refuses : (why : Refusal) (opcode : ℕ) → turn w u ≡ stays why opcode →
-      (r ≡ record { unit = stall (with_registers u s.registers); answer = NotTaken why opcode u.registers.creadr 0 0 }) × (left ≡ row)
+      (r ≡ record { unit = stall (with_registers u s.registers); answer = write_refused why opcode u.registers.creadr 0 0 }) × (left ≡ row)
   -- where the unit accepts it, it is the first command carried out
   pub accepts : (x : Command) → turn w u ≡ passes x → BeginsWith w u s r x
 
 -- the write is refused in the same way, does nothing and hands over nothing, and leaves unit and row as they are
 abbrev pub RefusedAgain : Written → Refusal → ℕ → ℕ → List ItsAction → Written → List ItsAction → Type 0
-RefusedAgain v why opcode offset row r left = (r ≡ record { unit = v.unit; answer = NotTaken why opcode offset 0 0 }) × (left ≡ row)
+RefusedAgain v why opcode offset row r left = (r ≡ record { unit = v.unit; answer = write_refused why opcode offset 0 0 }) × (left ≡ row)
 
 -- After a write that was refused because of the command at CREADR, and answered v, with the reason why, the opcode and the offset, which is CREADR (Kept):
 pub record TriedLater (w : Window) (v : Written) (why : Refusal) (opcode offset : ℕ) : Type 0 where
@@ -70,7 +70,7 @@ pub record TriedLater (w : Window) (v : Written) (why : Refusal) (opcode offset 
       RefusedAgain v why opcode offset row r left
   -- in strict a write without Retry that would let the queue run only stores: it tries nothing, be it a CTLR write that enables
   pub waits : profile_of v.unit.config ≡ strict → (w' : Window) (row : List ItsAction) (offset' width value : ℕ) (r : Written) (left : List ItsAction) →
-      Writes w' row v.unit offset' width value r left → (stores row v.unit offset' width value).runs ≡ true → (offset' ≡ GITS_CWRITER → CWRITER_Retry of value ≡ 0) →
+      Writes w' row v.unit offset' width value r left → then_runs (stores row v.unit offset' width value) ≡ true → (offset' ≡ GITS_CWRITER → CWRITER_Retry of value ≡ 0) →
       OnlyStores row v.unit (stores row v.unit offset' width value) r left
   -- one of CWRITER with Retry that is accepted, and not answered with 5, begins there, with any window, while commands wait
   pub by_retry : profile_of v.unit.config ≡ strict → (w' : Window) (row : List ItsAction) (width value : ℕ) (r : Written) (left : List ItsAction) →

@@ -2,17 +2,14 @@
 -- its last run was stopped by a command and neither of the two writes that clear it came since. Nothing here speaks of the unit's own bit but the
 -- theorems.
 -- Assumes nothing.
-use Rattle.std.specs.Prelude.{ℕ, ◌+◌, ◌≡◌, Bool, true, false, ◌&&◌, ◌||◌, not, List, [], ◌∷◌, ◌⊎◌, leb, eqb, get_or, if◌then◌else◌}
+use Rattle.std.specs.Prelude.{ℕ, ◌+◌, ◌≡◌, Bool, true, false, ◌&&◌, ◌||◌, not, List, [], ◌∷◌, ◌⊎◌, leb, eqb, get_or, if◌then◌else◌, Ok, Err}
 use Rattle.model.specs.declared.ItsConfig.{ItsConfig}
 use Rattle.model.specs.declared.ItsState.{ItsState}
 use Rattle.model.specs.declared.Command.{Command}
 use Rattle.model.specs.declared.Refusal.{Refusal}
 use Rattle.model.specs.declared.Refusal.TheVariants.{BudgetExceeded}
-use Rattle.model.specs.declared.ReadAnswer.{ReadAnswer}
-use Rattle.model.specs.declared.ReadAnswer.TheVariants.{Value}
-use Rattle.model.specs.declared.WriteAnswer.{WriteAnswer}
-use Rattle.model.specs.declared.WriteAnswer.TheVariants.{Taken, NotTaken}
 use Rattle.model.specs.declared.Written.{Written}
+use Rattle.model.specs.Answer.{ReadAnswer, WriteAnswer}
 use Rattle.model.specs.Arm.{◌of◌, CWRITER_Retry, GITS_CBASER, GITS_CWRITER, GITS_CREADR}
 use Rattle.model.specs.Profile.{base, strict, profile_of}
 use Rattle.model.specs.Register.{lies_in, one_if}
@@ -35,8 +32,8 @@ of_command at_output = false
 
 -- a command stopped the run of the write
 abbrev pub stopped : WriteAnswer → Bool
-stopped (Taken done actions) = false
-stopped (NotTaken why opcode offset done actions) = of_command (given_at why)
+stopped (Ok w) = false
+stopped (Err w) = of_command (given_at w.refusal)
 
 -- the refusal came after the value was stored: it is 5, or a command's
 abbrev pub afterwards : Given → Bool
@@ -48,8 +45,8 @@ afterwards at_output = false
 
 -- the write was accepted: it is taken, or refused afterwards
 abbrev pub accepted : WriteAnswer → Bool
-accepted (Taken done actions) = true
-accepted (NotTaken why opcode offset done actions) = afterwards (given_at why)
+accepted (Ok w) = true
+accepted (Err w) = afterwards (given_at w.refusal)
 
 -- THE TWO THAT CLEAR STALLED.
 
@@ -139,8 +136,8 @@ Unread u b = Alike (λ v. unit_stalled v b) (λ w row offset width value. Unit {
 pub record StalledShown (u : ItsState) : Type 0 where
   -- in strict CREADR reads its offset, plus 1 if the unit is stalled: at 8 bytes, and in the low half
   pub if_strict : profile_of u.config ≡ strict → (width : ℕ) → (width ≡ 8) ⊎ (width ≡ 4) → (r : ReadAnswer) → Reads u GITS_CREADR width r →
-      r ≡ Value (u.registers.creadr + one_if u.registers.stalled)
+      r ≡ Ok (u.registers.creadr + one_if u.registers.stalled)
   -- nothing of it in the high half
-  pub high : (r : ReadAnswer) → Reads u (GITS_CREADR + 4) 4 r → r ≡ Value 0
+  pub high : (r : ReadAnswer) → Reads u (GITS_CREADR + 4) 4 r → r ≡ Ok 0
   -- in base it reads its offset, whatever the unit holds
-  pub in_base : profile_of u.config ≡ base → (width : ℕ) → (width ≡ 8) ⊎ (width ≡ 4) → (r : ReadAnswer) → Reads u GITS_CREADR width r → r ≡ Value u.registers.creadr
+  pub in_base : profile_of u.config ≡ base → (width : ℕ) → (width ≡ 8) ⊎ (width ≡ 4) → (r : ReadAnswer) → Reads u GITS_CREADR width r → r ≡ Ok u.registers.creadr

@@ -1,7 +1,7 @@
 -- ALL THAT IS GUARANTEED of the public entries, in one place: each field is a theorem over their contracts (crates/its/specs/Promises.antt,
 -- crates/host/specs/Calls.antt), for all inputs. What a theorem concludes is said in the file that it is taken from. proofs/All.antt holds them all.
 -- Assumes nothing.
-use Rattle.std.specs.Prelude.{ℕ, ◌+◌, ◌≤◌, ◌<◌, ◌≡◌, Bool, true, false, List, [], ◌∷◌, ◌++◌, map, ◌⊎◌, ◌↔◌, take, drop}
+use Rattle.std.specs.Prelude.{ℕ, ◌+◌, ◌≤◌, ◌<◌, ◌≡◌, Bool, true, false, List, [], ◌∷◌, ◌++◌, map, ◌⊎◌, ◌↔◌, take, drop, Err}
 use Rattle.model.specs.declared.ItsDeviceId.{ItsDeviceId}
 use Rattle.model.specs.declared.EventId.{EventId}
 use Rattle.model.specs.declared.ItsConfig.{ItsConfig}
@@ -10,12 +10,9 @@ use Rattle.model.specs.declared.ItsAction.{ItsAction}
 use Rattle.model.specs.declared.Command.{Command}
 use Rattle.model.specs.declared.Refusal.{Refusal}
 use Rattle.model.specs.declared.Refusal.TheVariants.{Unsound, WriterRefused}
-use Rattle.model.specs.declared.Verdict.TheVariants.{Refused}
-use Rattle.model.specs.declared.ReadAnswer.{ReadAnswer}
-use Rattle.model.specs.declared.WriteAnswer.{WriteAnswer}
-use Rattle.model.specs.declared.TranslateAnswer.{TranslateAnswer}
 use Rattle.model.specs.declared.Configured.{Configured}
 use Rattle.model.specs.declared.Written.{Written}
+use Rattle.model.specs.Answer.{ReadAnswer, TranslateAnswer, WriteAnswer}
 use Rattle.model.specs.Refusal.{number_of, reasons, number_in01, folded}
 use Rattle.model.specs.Config.{sound_unit}
 use Rattle.model.specs.Arm.{◌of◌, CBASER_Valid, CWRITER_Retry, GITS_CWRITER}
@@ -27,6 +24,7 @@ use Rattle.model.specs.Entry.{stores}
 use Rattle.model.specs.In01.{configure_in01}
 use Rattle.model.specs.Common.{CommonWrite}
 use Rattle.model.specs.Trace.{at_start, lent_row, output_with, returned_with}
+use Rattle.model.specs.Writing.{then_runs}
 use Rattle.its.specs.declared.WrittenRow.{WrittenRow}
 use Rattle.its.specs.Promises.{NoUnit, Configures, Reads, Writes, WritesLent, Translates}
 use Rattle.trace.specs.Traced.{Traced}
@@ -79,11 +77,11 @@ pub record Theorems : Type 0 where
   pub strict_as_01 : (u : ItsState) → profile_of u.config ≡ strict → StrictAs01 u
   -- STRICT: while bit 63 of CBASER is 0 the queue runs nothing and there is no 5 (Profiles), on every unit. (A valid MAPD: mappings_in_force; device too
   -- large: refused_because)
-  pub held_stores : OfEveryWrite (λ w row u offset width value r left. profile_of u.config ≡ strict → (stores row u offset width value).runs ≡ true →
+  pub held_stores : OfEveryWrite (λ w row u offset width value r left. profile_of u.config ≡ strict → then_runs (stores row u offset width value) ≡ true →
       CBASER_Valid of (stores row u offset width value).registers.cbaser ≡ 0 → OnlyStores row u (stores row u offset width value) r left)
   -- STRICT: a stalled unit runs nothing either, and there is no 5, but for a CWRITER write with Retry (02, A4)
   pub stalled_stores : OfEveryWrite (λ w row u offset width value r left. profile_of u.config ≡ strict → u.registers.stalled ≡ true →
-      (stores row u offset width value).runs ≡ true → (offset ≡ GITS_CWRITER → CWRITER_Retry of value ≡ 0) → OnlyStores row u (stores row u offset width value) r left)
+      then_runs (stores row u offset width value) ≡ true → (offset ≡ GITS_CWRITER → CWRITER_Retry of value ≡ 0) → OnlyStores row u (stores row u offset width value) r left)
   -- STALLED (02, A4; Stalled): what each write makes of it, refused or not, on every unit, by its access and its answer
   pub stalled_kept : OfEveryWrite (λ w row u offset width value r left. StalledKept u offset value r)
   -- a strict unit is stalled exactly if its last run was stopped by a command and neither of the two has cleared it since: over whole runs of accesses
@@ -98,7 +96,7 @@ pub record Theorems : Type 0 where
   -- and to no unit whether it is sound
   pub sound_stalled : (u : ItsState) (b : Bool) → sound_unit (unit_stalled u b) ≡ sound_unit u
   -- A PROFILE THAT THERE IS NOT is refused with 1: any number above 1
-  pub no_such_profile : (k : ItsConfig) (c : Configured) → Configures k c → 1 < k.profile → c.verdict ≡ Refused Unsound
+  pub no_such_profile : (k : ItsConfig) (c : Configured) → Configures k c → 1 < k.profile → c.verdict ≡ Err Unsound
   -- by its_configure too
   pub call_no_such_profile : (ss ps : List ℕ) (u : ItsState) (r : ℕ) (told : List ℕ) → CallConfigures ss ps u r told → 1 < setting ss 3 → r ≡ 1
   -- and there a setting behind the known ones, unless it is 0
@@ -160,7 +158,7 @@ pub record Theorems : Type 0 where
   -- and nothing but 20 to 27 is folded
   pub folded_only : (n : ℕ) → (folded n ≡ n) ⊎ ((20 ≤ n) × ((n ≤ 27) × (folded n ≡ 7)))
   -- a unit refuses a command for a reason exactly if what the reason says holds (Reasons)
-  pub refused_because : (u : ItsState) (x : Command) (why : Refusal) → (check u x ≡ Refused why) ↔ Because u x why
+  pub refused_because : (u : ItsState) (x : Command) (why : Refusal) → (check u x ≡ Err why) ↔ Because u x why
   -- the command on which CREADR stands is refused for a reason, and with an opcode told, exactly if these are its own
   pub stops_because : (w : Window) (u : ItsState) (why : Refusal) (opcode : ℕ) → (turn w u ≡ stays why opcode) ↔ Told w u why opcode
   -- and a write that is refused at a command tells those of the one on which CREADR stands, in the unit that is left
@@ -183,7 +181,7 @@ pub record Theorems : Type 0 where
   -- 1 to everything too: the unit that stands where none was configured
   pub no_unit_answers_1 : (u : ItsState) → NoUnit u → AnswersOne u
   -- and the one that a refused configuration gives; its refusal is 1
-  pub refused_configuration : (k : ItsConfig) (c : Configured) → Configures k c → (why : Refusal) → c.verdict ≡ Refused why → (why ≡ Unsound) × AnswersOne c.unit
+  pub refused_configuration : (k : ItsConfig) (c : Configured) → Configures k c → (why : Refusal) → c.verdict ≡ Err why → (why ≡ Unsound) × AnswersOne c.unit
   -- A LATER WRITE TRIES AGAIN (Retries): one that runs the queue begins with the command on which CREADR stands. (In strict, while the unit is stalled, that
   -- is one with Retry)
   pub tries_again : OfEveryWrite (λ w row u offset width value r left. Tries u (stores row u offset width value) →

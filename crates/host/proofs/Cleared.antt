@@ -11,8 +11,3 @@ use Rattle.lent_tables.specs.Numbers.{NUMBERS, BASERS, device_in, collection_in,
 pub fresh : unit_in (set (set (replicate NUMBERS 0) BASERS 0x0107_0000_0000_0000) (BASERS + 1) 0x0407_0000_0000_0000) ≡ answers_no_unit
 unfolding device_in collection_in translation_in config_in registers_in devices_in collections_in translations_in
 fresh = refl
-
-pub zeros : (s s₀ : List ℕ) (i : ℕ) → s ≡ replicate i 0 ++ drop i s₀ → length s₀ ≡ NUMBERS → i ≡ NUMBERS → s ≡ replicate NUMBERS 0
-zeros s s₀ i e l h =
-    let all : drop NUMBERS s₀ ≡ [] = ap (λ n. drop n s₀) (sym l) ∙ drop-length s₀ in
-    e ∙ (ap (λ n. replicate n 0 ++ drop n s₀) h ∙ (ap (λ t. replicate NUMBERS 0 ++ t) all ∙ append-nil (replicate NUMBERS 0)))

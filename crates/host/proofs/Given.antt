@@ -1,12 +1,13 @@
 -- What a host gives. The processors: one more, all, and the first sixteen of more. A count above sixteen is refused like any other, and so is a setting
 -- that is not known: the configuration made is accepted exactly if the one given is.
 -- Assumes nothing.
-use Rattle.std.specs.Prelude.{if◌then◌else◌}
+use Rattle.std.specs.Prelude.{if◌then◌else◌, Err, Ok}
 use Prim.Native.Nat.{ℕ, zero, suc, ◌+◌, ◌-◌, ◌≤◌, ◌<◌}
 use native.Mathlib.Numerals.{add-one}
 use native.Mathlib.Omega.{arith}
 use mathlib.Core.Path.{◌≡◌, refl, sym, ◌∙◌, ap}
 use mathlib.Core.Bool.{Bool, true, false, ◌&&◌, ◌||◌}
+use mathlib.Core.Logic.{◌⊎◌, inl, inr}
 use mathlib.Core.List.{List, [], ◌∷◌, ◌++◌, map, append-nil}
 use lib.ListN.{length, take, drop, set, get_or, replicate}
 use lib.Seq.{take-append-le, take-append-add, take-suc, append_snoc, set_at, length-take-le, take_all}
@@ -16,14 +17,13 @@ use Rattle.model.specs.declared.GicVcpuId.{GicVcpuId}
 use Rattle.model.specs.declared.ItsConfig.{ItsConfig}
 use Rattle.model.specs.Arm.{LPI_base}
 use Rattle.model.specs.declared.Refusal.TheVariants.{Unsound}
-use Rattle.model.specs.declared.Verdict.TheVariants.{Accepted, Refused}
 use Rattle.model.specs.With.{a_config}
 use Rattle.model.specs.Profile.{is_profile}
 use Rattle.model.specs.Config.{processors_of, none_twice, sizes_in01, sound_config, fresh_unit, no_config, answers_no_unit}
 use Rattle.model.specs.Entry.{configure}
 use Rattle.model.proofs.Cases.{cases}
 use Rattle.model.proofs.RowLaws.{map_append, map_length}
-use Rattle.host.specs.Calls.{processors_given, setting, all_zero, none_further, config_given}
+use Rattle.host.specs.Calls.{processors_given, setting, none_further, config_given}
 use Rattle.host.specs.Parts.{count_given, limit_given}
 
 abbrev pub processor : ℕ → GicVcpuId
@@ -80,11 +80,11 @@ filled_first l h =
     ∙ (map_take 16 l ∙ sym (take-append-le 16 (map processor l) (replicate 16 none) (rw (map_length processor l) h)))
 
 -- The configuration.
-pub unsound : (k : ItsConfig) → sound_config k ≡ false → configure k ≡ record { unit = answers_no_unit; verdict = Refused Unsound }
+pub unsound : (k : ItsConfig) → sound_config k ≡ false → configure k ≡ record { unit = answers_no_unit; verdict = Err Unsound }
 unfolding configure
 unsound k h = rw h
 
-pub sound : (k : ItsConfig) → sound_config k ≡ true → configure k ≡ record { unit = fresh_unit k; verdict = Accepted }
+pub sound : (k : ItsConfig) → sound_config k ≡ true → configure k ≡ record { unit = fresh_unit k; verdict = Ok tt }
 unfolding configure
 sound k h = rw h
 
@@ -125,19 +125,7 @@ given ss ps m b f p c l =
     (unsound (a_config 0 (setting ss 1) (setting ss 2) (setting ss 3) (count_given ps) (processors_given ps)) (no_limit (setting ss 1) (setting ss 2) (setting ss 3) (count_given ps) (processors_given ps))
     ∙ sym (unsound no_config (no_limit 0 0 0 0 (replicate 16 none))))))
 
--- The settings behind those that are known: from one of them on.
-pub zero_more : (ss : List ℕ) (i : ℕ) → i < length ss → get_or ss i 0 ≡ 0 → all_zero (drop i ss) ≡ all_zero (drop (suc i) ss)
-zero_more [] i h z = absurd (omega arith)
-zero_more (n ∷ ss) zero h z = rw z
-zero_more (n ∷ ss) (suc i) h z = zero_more ss i (omega arith) z
-
-pub zero_ends : (ss : List ℕ) (i : ℕ) → length ss ≤ i → all_zero (drop i ss) ≡ true
-zero_ends [] zero h = refl
-zero_ends [] (suc i) h = refl
-zero_ends (n ∷ ss) zero h = absurd (omega arith)
-zero_ends (n ∷ ss) (suc i) h = zero_ends ss i (omega arith)
-
-pub zero_not : (ss : List ℕ) (i : ℕ) → i < length ss → (get_or ss i 0 ≡ 0 → ⊥) → all_zero (drop i ss) ≡ false
-zero_not [] i h z = absurd (omega arith)
-zero_not (n ∷ ss) zero h z = rw (ne_eqb n 0 z)
-zero_not (n ∷ ss) (suc i) h z = zero_not ss i (omega arith) z
+-- as many as are taken
+pub filled_taken : (k : ℕ) (l : List ℕ) → k ≤ 16 → k ≤ length l → (k ≡ length l) ⊎ (k ≡ 16) → filled k l ≡ processors_given l
+filled_taken k l h b (inl e) = filled_all k l h (sym e)
+filled_taken k l h b (inr e) = ap (λ m. filled m l) e ∙ filled_first l (rw e at b)

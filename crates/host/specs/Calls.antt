@@ -1,21 +1,21 @@
 -- What the C calls for hosts promise: the predicate that each `ensures` names, over the unit that the lent numbers are (crates/lent_tables), what comes
 -- back, and what is left. Each says that the call does what the model's entry says, and asks nothing of the inputs.
 -- Assumes nothing.
-use Rattle.std.specs.Prelude.{ℕ, ◌≡◌, Bool, true, false, ◌&&◌, List, [], ◌∷◌, ◌++◌, map, length, get_or, take, drop, replicate, eqb, if◌then◌else◌}
+use Rattle.std.specs.Prelude.{ℕ, ◌≡◌, Bool, false, List, [], ◌∷◌, ◌++◌, map, length, get_or, take, drop, replicate, eqb, if◌then◌else◌}
+use Rattle.std.specs.List.{list_all}
 use Rattle.model.specs.declared.GicVcpuId.{GicVcpuId}
 use Rattle.model.specs.declared.ItsConfig.{ItsConfig}
 use Rattle.model.specs.declared.ItsAction.{ItsAction}
 use Rattle.model.specs.declared.ItsState.{ItsState}
 use Rattle.model.specs.declared.Configured.{Configured}
-use Rattle.model.specs.declared.ReadAnswer.{ReadAnswer}
 use Rattle.model.specs.declared.RegisterWrite.{RegisterWrite}
-use Rattle.model.specs.declared.WriteAnswer.{WriteAnswer}
-use Rattle.model.specs.declared.TranslateAnswer.{TranslateAnswer}
+use Rattle.model.specs.Answer.{ReadAnswer, TranslateAnswer, WriteAnswer}
 use Rattle.model.specs.With.{with_registers, a_config}
 use Rattle.model.specs.Config.{no_config}
 use Rattle.model.specs.Refusal.{verdict_number, read_numbers, write_numbers, translate_numbers}
 use Rattle.model.specs.Queue.{Window, run_queue}
 use Rattle.model.specs.Entry.{configure, read, translate, stores, write}
+use Rattle.model.specs.Writing.{then_runs}
 use Rattle.lent_tables.specs.Numbers.{laid_out}
 pub use Rattle.lent_queue.specs.Actions.{action_in, row_with}
 
@@ -50,8 +50,7 @@ SETTINGS = 4
 
 -- every setting behind those is 0, as if it were left out: a setting that this unit does not know is not passed over
 abbrev pub all_zero : List ℕ → Bool
-all_zero [] = true
-all_zero (n ∷ ns) = eqb n 0 && all_zero ns
+all_zero ns = list_all (λ n. eqb n 0) ns
 
 unfoldable pub none_further : List ℕ → Bool
 none_further ss = all_zero (drop SETTINGS ss)
@@ -67,7 +66,7 @@ config_given ss ps =
 
 -- those of the run, where the write lets the queue run
 abbrev pub actions_by : Window → ItsState → RegisterWrite → List ItsAction
-actions_by w u s = if s.runs then (run_queue w (with_registers u s.registers)).actions else []
+actions_by w u s = if then_runs s then (run_queue w (with_registers u s.registers)).actions else []
 
 -- the actions of the INT and CLEAR carried out in this write
 abbrev pub actions_made : Window → List ItsAction → ItsState → ℕ → ℕ → ℕ → List ItsAction

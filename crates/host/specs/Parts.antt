@@ -1,7 +1,7 @@
 -- What the parts of the C calls promise: a configuration as it is made of what the host gives, and a write before its answer is told.
 -- Assumes nothing.
 use Rattle.std.specs.Prelude.{ℕ, ◌≡◌, List, map, length, ltb, if◌then◌else◌}
-use Rattle.model.specs.declared.WriteAnswer.{WriteAnswer}
+use Rattle.model.specs.Answer.{WriteAnswer}
 use Rattle.model.specs.Queue.{Window}
 use Rattle.model.specs.Entry.{write}
 use Rattle.lent_tables.specs.Numbers.{unit_in}

@@ -32,22 +32,9 @@ asked (b ∷ l) e t = omega arith
 pub on_from_1 : (input : List ℕ) → take (length input - 1) (drop 1 input) ≡ drop 1 input
 on_from_1 input = take_all (length input - 1) (drop 1 input) (rw length-drop (omega arith))
 
--- the five bytes of the line LONG, stored one by one
-stored : List ℕ → List ℕ
-stored out = set (set (set (set (set out 0 76) 1 79) 2 78) 3 71) 4 10
-
-stored_is : (out : List ℕ) → 5 ≤ length out → take 5 (stored out) ≡ ascii "LONG\n"
-unfolding stored
-stored_is [] h = absurd (omega arith)
-stored_is (a ∷ []) h = absurd (omega arith)
-stored_is (a ∷ b ∷ []) h = absurd (omega arith)
-stored_is (a ∷ b ∷ c ∷ []) h = absurd (omega arith)
-stored_is (a ∷ b ∷ c ∷ d ∷ []) h = absurd (omega arith)
-stored_is (a ∷ b ∷ c ∷ d ∷ e ∷ out) h = refl
-
-pub long : (input out : List ℕ) → 5 ≤ length out → 32768 < length input → take 5 (set (set (set (set (set out 0 76) 1 79) 2 78) 3 71) 4 10) ≡ shown input
-unfolding shown stored
-long input out h k = rw (lt-leb (length input) 32768 k) (stored_is out h)
+pub long : (input : List ℕ) → 32768 < length input → ascii "LONG\n" ≡ shown input
+unfolding shown
+long input h = rw (lt-leb (length input) 32768 h)
 
 module _ (input out : List ℕ) (room : length out ≡ 65536) (left : List ℕ) (laid : Laid) (e : output left laid ≡ lay_all (output out fresh) (shown_lines input)) where
   text : List ℕ

@@ -1,5 +1,8 @@
 // The lines of a unit: its profile, its mappings in force, then its mapped devices.
-ghost use Rattle.std.specs.Prelude.{◌≡◌, [], ◌∷◌, map, if◌then◌else◌};
+#![tactic(auto, unfolding(model::specs::Trace::line, text::specs::Laying::line_of))]
+
+ghost use Rattle.std.specs.Prelude.{◌≡◌, [], ◌∷◌, map};
+ghost use Rattle.model.specs.Choose.{if_found};
 ghost use Rattle.mappings.specs.Mappings.{mappings_of, devices_of};
 ghost use Rattle.text.specs.Laying.{line_of, output, lay_all};
 ghost use Rattle.inforce.specs.Shown.{profile_line, profile_lines, mapping_line, device_line, unit_lines};
@@ -9,52 +12,38 @@ use model::{ItsConfig, ItsDevice, ItsState};
 use text::{Laid, Line};
 
 // `PF profile`
-fn of_profile(config: ItsConfig) -> Line
+fn of_profile(config: ItsConfig) -> Line<1>
     ensures { line_of result ≡ profile_line config }
 {
-    let profile = config.profile as u64;
     Line {
-        first: b'P',
-        second: b'F',
-        count: 1,
-        numbers: [profile, 0, 0, 0, 0],
+        mark: *b"PF",
+        numbers: [u64::from(config.profile)],
     }
 }
 
 // `MP device event lpi collection processor`
-fn of_mapping(m: Mapping) -> Line
+fn of_mapping(m: Mapping) -> Line<5>
     ensures { line_of result ≡ mapping_line m }
 {
-    let device = m.device;
-    let event = m.event;
-    let lpi = m.lpi;
-    let collection = m.collection;
-    let target = m.target;
-    let d = device.0 as u64;
-    let e = event.0 as u64;
-    let l = lpi.0 as u64;
-    let c = collection.0 as u64;
-    let p = target.0 as u64;
     Line {
-        first: b'M',
-        second: b'P',
-        count: 5,
-        numbers: [d, e, l, c, p],
+        mark: *b"MP",
+        numbers: [
+            u64::from(m.device.0),
+            u64::from(m.event.0),
+            u64::from(m.lpi.0),
+            u64::from(m.collection.0),
+            u64::from(m.target.0),
+        ],
     }
 }
 
 // `DV device bits`
-fn of_device(r: ItsDevice) -> Line
+fn of_device(r: ItsDevice) -> Line<2>
     ensures { line_of result ≡ device_line r }
 {
-    let device = r.device;
-    let d = device.0 as u64;
-    let bits = r.event_bits as u64;
     Line {
-        first: b'D',
-        second: b'V',
-        count: 2,
-        numbers: [d, bits, 0, 0, 0],
+        mark: *b"DV",
+        numbers: [u64::from(r.device.0), u64::from(r.event_bits)],
     }
 }
 
@@ -63,43 +52,37 @@ fn put_profile(out: &mut [u8], laid: Laid, config: ItsConfig) -> Laid
     ensures { output out.new result ≡ lay_all (output out.old laid) (profile_lines config) }
 {
     if registers::sizes::sound_config(config) {
-        let line = of_profile(config);
-        return text::put_line(out, laid, line);
+        return text::put_line(out, laid, of_profile(config));
     }
     laid
 }
 
-// The line of a mapping that is in force.
-fn put_mapping(out: &mut [u8], laid: Laid, m: Mapping) -> Laid
-    ensures { output out.new result ≡ lay_all (output out.old laid) (if m.in_force then mapping_line m ∷ [] else []) }
+// The line of a mapping, if there is one.
+fn put_mapping(out: &mut [u8], laid: Laid, m: Option<Mapping>) -> Laid
+    ensures { output out.new result ≡ lay_all (output out.old laid) (if_found m (λ m. mapping_line m ∷ []) []) }
 {
-    if m.in_force {
-        let line = of_mapping(m);
-        return text::put_line(out, laid, line);
+    match m {
+        Some(m) => text::put_line(out, laid, of_mapping(m)),
+        None => laid,
     }
-    laid
 }
 
-// The line of a device that is mapped.
-fn put_device(out: &mut [u8], laid: Laid, r: ItsDevice) -> Laid
-    ensures { output out.new result ≡ lay_all (output out.old laid) (if r.used then device_line r ∷ [] else []) }
+// The line of a device, if there is one.
+fn put_device(out: &mut [u8], laid: Laid, r: Option<ItsDevice>) -> Laid
+    ensures { output out.new result ≡ lay_all (output out.old laid) (if_found r (λ r. device_line r ∷ []) []) }
 {
-    if r.used {
-        let line = of_device(r);
-        return text::put_line(out, laid, line);
+    match r {
+        Some(r) => text::put_line(out, laid, of_device(r)),
+        None => laid,
     }
-    laid
 }
 
 fn put_mappings(out: &mut [u8], laid: Laid, unit: ItsState) -> Laid
     ensures { output out.new result ≡ lay_all (output out.old laid) (map mapping_line (mappings_of unit)) }
 {
     let mut next = laid;
-    let mut i: usize = 0;
-    while i < 256 {
-        let m = mappings::mapping_at(unit, i);
-        next = put_mapping(out, next, m);
-        i += 1;
+    for i in 0..256 {
+        next = put_mapping(out, next, mappings::mapping_at(unit, i));
     }
     next
 }
@@ -108,11 +91,8 @@ fn put_devices(out: &mut [u8], laid: Laid, unit: ItsState) -> Laid
     ensures { output out.new result ≡ lay_all (output out.old laid) (map device_line (devices_of unit)) }
 {
     let mut next = laid;
-    let mut i: usize = 0;
-    while i < 32 {
-        let r = mappings::device_at(unit, i);
-        next = put_device(out, next, r);
-        i += 1;
+    for i in 0..32 {
+        next = put_device(out, next, mappings::device_at(unit, i));
     }
     next
 }
@@ -121,8 +101,7 @@ fn put_devices(out: &mut [u8], laid: Laid, unit: ItsState) -> Laid
 pub fn put_unit(out: &mut [u8], laid: Laid, unit: ItsState) -> Laid
     ensures { output out.new result ≡ lay_all (output out.old laid) (unit_lines unit) }
 {
-    let config = unit.config;
-    let first = put_profile(out, laid, config);
-    let next = put_mappings(out, first, unit);
-    put_devices(out, next, unit)
+    let profiled = put_profile(out, laid, unit.config);
+    let mapped = put_mappings(out, profiled, unit);
+    put_devices(out, mapped, unit)
 }

@@ -4,12 +4,11 @@
 mod lines;
 mod runs;
 
-ghost use Rattle.std.specs.Prelude.{◌≡◌, false, ◌≤◌, length, take, get_or, eqb, IfOk};
+ghost use Rattle.std.specs.Prelude.{◌≡◌, false, length, get_or, eqb};
 ghost use Rattle.text.specs.Laying.{output, lay_all};
 ghost use Rattle.inforce.specs.Shown.{shown_lines, shown};
 
 use std::io;
-use std::io::Read;
 use text::Laid;
 
 // Whether the mappings are asked for after each record.
@@ -35,42 +34,22 @@ fn lay(input: &[u8], out: &mut [u8]) -> Laid
     lines::put_unit(out, laid, unit)
 }
 
-// What is printed of an input, at the start of the output. It answers how many bytes there are.
-fn print(input: &[u8], out: &mut [u8]) -> usize
+// What is printed of an input, at the start of the output.
+fn print<'a>(input: &[u8], out: &'a mut [u8]) -> &'a [u8]
     requires { length out.old ≡ 65536 }
-    ensures { (result ≤ length out.new) × (take result out.new ≡ shown input.now) }
+    ensures { result.now ≡ shown input.now }
 {
     if 32768 < input.len() {
-        out[0] = b'L';
-        out[1] = b'O';
-        out[2] = b'N';
-        out[3] = b'G';
-        out[4] = b'\n';
-        return 5;
+        return b"LONG\n";
     }
     let laid = lay(input, out);
-    laid.at
-}
-
-// Reads until the room is full or the input ends. It answers how many bytes there are.
-fn read_full(from: &mut impl Read, room: &mut [u8]) -> io::Result<usize>
-    ensures { IfOk result (λ n. n ≤ length room.new) }
-{
-    let mut at = 0;
-    while at < room.len() {
-        let n = from.read(&mut room[at..])?;
-        if n == 0 {
-            break;
-        }
-        at += n;
-    }
-    Ok(at)
+    &out[..laid.at]
 }
 
 fn main(rt: HostRuntime) -> io::Result<()> {
-    let mut input = [0u8; 32769];
-    let n = read_full(&mut rt.stdin(), &mut input)?;
+    let mut room = [0u8; 32769];
+    let (input, read) = input::read_full(&mut rt.stdin(), &mut room);
+    read?;
     let mut out = [0u8; 65536];
-    let k = print(&input[..n], &mut out);
-    rt.write_all(&out[..k])
+    rt.write_all(print(input, &mut out))
 }

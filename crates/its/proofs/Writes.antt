@@ -1,5 +1,6 @@
 -- A write up to its run, and then the run, is the model's write.
 -- Assumes nothing.
+use Rattle.std.specs.Prelude.{None, is_none}
 use Prim.Native.Nat.{ℕ, zero, suc, ◌≤◌}
 use native.Mathlib.Omega.{arith}
 use mathlib.Core.Path.{◌≡◌, refl, sym, ap, subst, ◌∙◌}
@@ -18,7 +19,7 @@ use Rattle.model.specs.With.{with_registers}
 use Rattle.model.specs.Config.{sizes_in01, sound_config, sound_unit}
 use Rattle.model.specs.Queue.{Window, waiting, run, halting, may_run}
 use Rattle.model.specs.Entry.{after_run, running, stores, write}
-use Rattle.model.proofs.Cases.{cases, never, and_left, and_right}
+use Rattle.model.proofs.Cases.{cases, there_or, never, and_left, and_right}
 use Rattle.model.proofs.RunLaws.{sound_stands}
 use Rattle.model.proofs.Answers.{queue-runs, queue-over, queue-off}
 use Rattle.model.proofs.Ways.{runs_ready}
@@ -90,22 +91,22 @@ module _ (w : Window) (row : List ItsAction) (u : ItsState) (offset width value 
   abbrev s : RegisterWrite
   s = stores row u offset width value
 
-  ready : s.runs ≡ true → (sound_unit (with_registers u s.registers) ≡ true) × (u.config.command_budget ≤ length row)
-  ready = runs_ready u (length row) offset width value
+  ready : s.answer ≡ None → (sound_unit (with_registers u s.registers) ≡ true) × (u.config.command_budget ≤ length row)
+  ready on = runs_ready u (length row) offset width value (ap is_none on)
 
   pub begins : Begun (prepared u (length row) offset width value) (length row)
   unfolding prepared
   begins =
-      cases s.runs
+      there_or s.answer
+      (λ a off. rw off (record { starts = λ h. never true refl (sym h); few = λ h. never true refl (sym h); room_left = λ h. never true refl (sym h); stands = λ h. never true refl (sym h) }))
       (λ on. rw on (starts_so w row (with_registers u s.registers) (ready on).0 (ready on).1))
-      (λ off. rw off (record { starts = λ h. never true refl (sym h); few = λ h. never true refl (sym h); room_left = λ h. never true refl (sym h); stands = λ h. never true refl (sym h) }))
 
   pub ends : end_of w (prepared u (length row) offset width value) row ≡ write w row u offset width value
   unfolding prepared write
   ends =
-      cases s.runs
+      there_or s.answer
+      (λ a off. rw off refl)
       (λ on. rw on (starts_to w row (with_registers u s.registers) (ready on).0 (ready on).1))
-      (λ off. rw off refl)
 
   -- what comes back is what the contract says
   pub writes : {t : Progress} → t ≡ prepared u (length row) offset width value → {r : Written} {left : List ItsAction} →

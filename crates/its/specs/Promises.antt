@@ -7,10 +7,9 @@ use Rattle.model.specs.declared.EventId.{EventId}
 use Rattle.model.specs.declared.ItsConfig.{ItsConfig}
 use Rattle.model.specs.declared.ItsState.{ItsState}
 use Rattle.model.specs.declared.ItsAction.{ItsAction}
-use Rattle.model.specs.declared.ReadAnswer.{ReadAnswer}
-use Rattle.model.specs.declared.TranslateAnswer.{TranslateAnswer}
 use Rattle.model.specs.declared.Configured.{Configured}
 use Rattle.model.specs.declared.Written.{Written}
+use Rattle.model.specs.Answer.{ReadAnswer, TranslateAnswer}
 use Rattle.model.specs.Refusal.{verdict_number, read_numbers, write_numbers, translate_numbers}
 use Rattle.model.specs.Config.{answers_no_unit}
 use Rattle.model.specs.Queue.{Window}

@@ -10,10 +10,11 @@ ghost use Rattle.its.specs.Promises.{NoUnit, Configures, Reads, Writes, WritesLe
 ghost use Rattle.its.specs.Prepared.{prepared};
 
 use model::{
-    Configured, EventId, GicVcpuId, ItsAction, ItsConfig, ItsDeviceId, ItsRegisters, ItsState,
-    LpiId, ReadAnswer, Refusal, TranslateAnswer, Verdict, WriteAnswer, Written,
+    Configured, Delivery, EventId, ItsAction, ItsCollection, ItsConfig, ItsDevice, ItsDeviceId,
+    ItsRegisters, ItsState, Pair, Refusal, Translation, WriteAnswer, Written,
 };
 use queue::Progress;
+use registers::Frame;
 use window::GuestWindow;
 
 // What a write answers, with the row as it is left.
@@ -50,98 +51,83 @@ fn fresh_registers() -> ItsRegisters
 fn fresh(config: ItsConfig) -> ItsState
     ensures { result ≡ fresh_unit config }
 {
-    let kept = config;
-    let registers = fresh_registers();
-    let device = tables::no_device();
-    let collection = tables::no_collection();
-    let translation = tables::no_translation();
-    let devices = [device; 32];
-    let collections = [collection; 32];
-    let translations = [translation; 256];
     ItsState {
-        config: kept,
-        registers: registers,
-        devices: devices,
-        collections: collections,
-        translations: translations,
+        config,
+        registers: fresh_registers(),
+        devices: [ItsDevice::default(); 32],
+        collections: [ItsCollection::default(); 32],
+        translations: [Translation::default(); 256],
     }
 }
 
 fn no_config() -> ItsConfig
     ensures { result ≡ no_config }
 {
-    let processor = GicVcpuId(0);
-    let processors = [processor; 16];
-    ItsConfig {
-        lpi_limit: 0,
-        command_budget: 0,
-        frame_size: 0,
-        profile: 0,
-        processor_count: 0,
-        processors: processors,
-    }
+    ItsConfig::default()
 }
 
 // The unit that answers 1 to everything.
 pub fn no_unit() -> ItsState
     ensures { NoUnit result }
 {
-    let config = no_config();
-    fresh(config)
+    fresh(no_config())
 }
 
 pub fn configure(config: ItsConfig) -> Configured
     ensures { Configures config result }
 {
     if registers::sizes::sound_config(config) {
-        let unit = fresh(config);
-        return Configured {
-            unit: unit,
-            verdict: Verdict::Accepted,
-        };
-    }
-    let unit = no_unit();
-    Configured {
-        unit: unit,
-        verdict: Verdict::Refused(Refusal::Unsound),
+        Configured {
+            unit: fresh(config),
+            verdict: Ok(()),
+        }
+    } else {
+        Configured {
+            unit: no_unit(),
+            verdict: Err(Refusal::Unsound),
+        }
     }
 }
 
-pub fn read_its(unit: ItsState, offset: u64, width: u8) -> ReadAnswer
+// What the unit shows of itself, without its tables.
+fn frame(unit: ItsState) -> Frame
+    ensures { result ≡ record { config = unit.config; registers = unit.registers } }
+{
+    Frame {
+        config: unit.config,
+        registers: unit.registers,
+    }
+}
+
+pub fn read_its(unit: ItsState, offset: u64, width: u8) -> Result<u64, Refusal>
     ensures { Reads unit offset width result }
 {
-    let config = unit.config;
-    let registers = unit.registers;
-    registers::read_from(config, registers, offset, width)
+    frame(unit).read(offset, width)
 }
 
 // A disabled unit translates too.
-pub fn translate(unit: ItsState, device: ItsDeviceId, event: EventId) -> TranslateAnswer
+pub fn translate(unit: ItsState, device: ItsDeviceId, event: EventId) -> Result<Delivery, Refusal>
     ensures { Translates unit device event result }
 {
-    let config = unit.config;
-    let registers = unit.registers;
-    if !registers::sizes::sound_unit(config, registers) {
-        return TranslateAnswer::NotDelivered(Refusal::Unsound);
+    if !frame(unit).is_sound() {
+        return Err(Refusal::Unsound);
     }
-    command::pairs::deliver(unit, device, event)
+    command::pairs::deliver(unit, Pair { device, event })
 }
 
 // Everything of a write up to its run.
 pub fn prepare(unit: ItsState, room: usize, offset: u64, width: u8, value: u64) -> Progress
     ensures { result ≡ prepared unit room offset width value }
 {
-    let config = unit.config;
-    let registers = unit.registers;
-    let write = registers::write_access(config, registers, room, offset, width, value);
-    let left = write.registers;
-    let mut next = unit;
-    next.registers = left;
-    if write.runs {
-        return queue::start(next);
+    let write = frame(unit).write(room, offset, width, value);
+    let next = ItsState {
+        registers: write.registers,
+        ..unit
+    };
+    match write.answer {
+        Some(answer) => queue::settled(next, answer),
+        None => queue::start(next),
     }
-    let answer = write.answer;
-    queue::settled(next, answer)
 }
 
 // A write, with any window and any row.
@@ -163,24 +149,16 @@ pub fn write_its<'w, 'r>(
 fn fresh_row() -> [ItsAction; 1024]
     ensures { result ≡ lent_row }
 {
-    let action = ItsAction {
-        target: GicVcpuId(0),
-        lpi: LpiId(0),
-        pending: false,
-    };
-    [action; 1024]
+    [ItsAction::default(); 1024]
 }
 
 fn with_row(w: Written, row: [ItsAction; 1024]) -> WrittenRow
     ensures { result ≡ beside_row w row }
 {
-    let unit = w.unit;
-    let answer = w.answer;
-    let actions = row;
     WrittenRow {
-        unit: unit,
-        answer: answer,
-        row: actions,
+        unit: w.unit,
+        answer: w.answer,
+        row,
     }
 }
 
@@ -188,7 +166,7 @@ fn with_row(w: Written, row: [ItsAction; 1024]) -> WrittenRow
 fn lent_of(room: usize) -> usize
     ensures { result ≡ lent_of room }
 {
-    if room < 1024 { room } else { 1024 }
+    room.min(1024)
 }
 
 // The same entry for a caller that has no row: window and row are made here, the first `room` of the row's 1,024 records are lent, and the row comes
@@ -205,14 +183,8 @@ pub fn write_lent(
     ensures { WritesLent (lent address bytes.now) room unit offset width value result }
 {
     let mut row = fresh_row();
-    let n = lent_of(room);
-    let w = write_its(
-        unit,
-        GuestWindow { address, bytes },
-        &mut row[..n],
-        offset,
-        width,
-        value,
-    );
-    with_row(w, row)
+    let window = GuestWindow { address, bytes };
+    let lent = &mut row[..lent_of(room)];
+    let written = write_its(unit, window, lent, offset, width, value);
+    with_row(written, row)
 }

@@ -3,10 +3,10 @@
 use Rattle.std.specs.Prelude.{if◌then◌else◌}
 use Prim.Native.Nat.{ℕ, ◌+◌, ◌*◌, ◌/◌, ◌≤◌, ◌<◌}
 use native.Mathlib.Omega.{arith}
-use mathlib.Core.Path.{◌≡◌, refl}
+use mathlib.Core.Path.{◌≡◌}
 use mathlib.Core.Bool.{Bool, true, false}
-use mathlib.Core.List.{List, [], ◌∷◌}
-use lib.ListN.{length, take, drop, set}
+use mathlib.Core.List.{List}
+use lib.ListN.{length, take, drop}
 use lib.Seq.{take-append_seam}
 use borrow.Author.Tests.{le-leb, lt-leb}
 use Rattle.model.specs.Text.{ascii}
@@ -14,22 +14,9 @@ use Rattle.model.specs.Trace.{trace_lines, all_fit, space, written_to, returned,
 use Rattle.trace.specs.Traced.{Traced}
 use Rattle.text.proofs.Fits.{fitting_within}
 
--- the five bytes of the line LONG, stored one by one
-stored : List ℕ → List ℕ
-stored out = set (set (set (set (set out 0 76) 1 79) 2 78) 3 71) 4 10
-
-stored_is : (out : List ℕ) → 5 ≤ length out → take 5 (stored out) ≡ ascii "LONG\n"
-unfolding stored
-stored_is [] h = absurd (omega arith)
-stored_is (a ∷ []) h = absurd (omega arith)
-stored_is (a ∷ b ∷ []) h = absurd (omega arith)
-stored_is (a ∷ b ∷ c ∷ []) h = absurd (omega arith)
-stored_is (a ∷ b ∷ c ∷ d ∷ []) h = absurd (omega arith)
-stored_is (a ∷ b ∷ c ∷ d ∷ e ∷ out) h = refl
-
-pub long : (input out : List ℕ) → 5 ≤ length out → 32768 < length input → take 5 (set (set (set (set (set out 0 76) 1 79) 2 78) 3 71) 4 10) ≡ printed input
-unfolding printed stored
-long input out h k = rw (lt-leb (length input) 32768 k) (stored_is out h)
+pub long : (input : List ℕ) → 32768 < length input → ascii "LONG\n" ≡ printed input
+unfolding printed
+long input h = rw (lt-leb (length input) 32768 h)
 
 -- the number that is returned holds how much was written
 sixteenth : (n : ℕ) (b : Bool) → (16 * n + (if b then 0 else 11)) / 16 ≡ n

@@ -1,49 +1,27 @@
 // Reads a trace from standard input and prints its lines.
 #![tactic(auto)]
 
-ghost use Rattle.std.specs.Prelude.{◌≡◌, ◌≤◌, length, take, IfOk};
+ghost use Rattle.std.specs.Prelude.{◌≡◌, length};
 ghost use Rattle.model.specs.Trace.{printed};
 
 use std::io;
-use std::io::Read;
 
-// What is printed of an input, at the start of the output: its lines as far as they fit, or of too long an input the line LONG only. It answers how
-// many bytes there are.
-fn print(input: &[u8], out: &mut [u8]) -> usize
+// What is printed of an input, at the start of the output: its lines as far as they fit, or of too long an input the line LONG only.
+fn print<'a>(input: &[u8], out: &'a mut [u8]) -> &'a [u8]
     requires { length out.old ≡ 32768 }
-    ensures { (result ≤ length out.new) × (take result out.new ≡ printed input.now) }
+    ensures { result.now ≡ printed input.now }
 {
     if 32768 < input.len() {
-        out[0] = b'L';
-        out[1] = b'O';
-        out[2] = b'N';
-        out[3] = b'G';
-        out[4] = b'\n';
-        return 5;
+        return b"LONG\n";
     }
     let number = trace::run_trace(input, out);
-    (number / 16) as usize
-}
-
-// Reads until the room is full or the input ends. It answers how many bytes there are.
-fn read_full(from: &mut impl Read, room: &mut [u8]) -> io::Result<usize>
-    ensures { IfOk result (λ n. n ≤ length room.new) }
-{
-    let mut at = 0;
-    while at < room.len() {
-        let n = from.read(&mut room[at..])?;
-        if n == 0 {
-            break;
-        }
-        at += n;
-    }
-    Ok(at)
+    &out[..(number / 16) as usize]
 }
 
 fn main(rt: HostRuntime) -> io::Result<()> {
-    let mut input = [0u8; 32769];
-    let n = read_full(&mut rt.stdin(), &mut input)?;
+    let mut room = [0u8; 32769];
+    let (input, read) = input::read_full(&mut rt.stdin(), &mut room);
+    read?;
     let mut out = [0u8; 32768];
-    let k = print(&input[..n], &mut out);
-    rt.write_all(&out[..k])
+    rt.write_all(print(input, &mut out))
 }

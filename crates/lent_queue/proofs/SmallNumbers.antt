@@ -1,11 +1,11 @@
 -- Each processor of a unit that is lent as numbers has 16 bits and each LPI 32, and so have those of every command that is read; so every action of
 -- a run has them.
 -- Assumes nothing.
+use Rattle.std.specs.Prelude.{Err, None, Ok, Option, Some}
 use Prim.Native.Nat.{ℕ, zero, suc, ◌+◌, ◌^◌, ◌<◌}
 use native.Mathlib.Omega.{arith}
 use mathlib.Core.Bool.{Bool, true, false, ◌&&◌}
 use mathlib.Core.List.{List, [], ◌∷◌, ◌++◌}
-use mathlib.Core.Option.{Option, none, some}
 use lib.Dec.{leb, eqb}
 use lib.ListN.{set}
 use Rattle.model.specs.declared.ItsDeviceId.{ItsDeviceId}
@@ -20,11 +20,8 @@ use Rattle.model.specs.declared.ItsAction.{ItsAction}
 use Rattle.model.specs.declared.Delivery.{Delivery}
 use Rattle.model.specs.declared.Command.{Command}
 use Rattle.model.specs.declared.Command.TheVariants.{Mapd, Mapc, Mapti, Mapi, Movi, Int, Clear, Discard, Inv, Invall, Sync}
-use Rattle.model.specs.declared.Decoded.{Decoded}
-use Rattle.model.specs.declared.Decoded.TheVariants.{Known, Unknown}
 use Rattle.model.specs.declared.Refusal.TheVariants.{NotInWindow}
-use Rattle.model.specs.declared.Verdict.{Verdict}
-use Rattle.model.specs.declared.Verdict.TheVariants.{Accepted, Refused}
+use Rattle.model.specs.Answer.{Decoded, Verdict}
 use Rattle.model.specs.Choose.{when_found, if_found, list_of}
 use Rattle.model.specs.With.{with_registers}
 use Rattle.model.specs.Table.{look, store, drop_all}
@@ -63,20 +60,20 @@ module _ {A : Type 0} (P : A → Type 0) where
   all_rows (suc n) f h = and_all (h zero) (all_rows n (λ i. f (suc i)) (λ i. h (suc i)))
 
   abbrev IfAny : Option A → Type 0
-  IfAny none = Unit {0}
-  IfAny (some a) = P a
+  IfAny None = Unit {0}
+  IfAny (Some a) = P a
 
   any_look : (p : A → Bool) {l : List A} → All P l → IfAny (look p l)
   any_look p no_more = tt
   any_look p (and_all {a} q h) = cases (p a) (λ y. rw y q) (λ n. rw n (any_look p h))
 
   any_list : (o : Option A) → IfAny o → All P (list_of o)
-  any_list none h = no_more
-  any_list (some a) h = and_all h no_more
+  any_list None h = no_more
+  any_list (Some a) h = and_all h no_more
 
 any_when : {A B : Type 0} (P : A → Type 0) (Q : B → Type 0) (o : Option A) (f : A → Option B) → IfAny P o → ((a : A) → P a → IfAny Q (f a)) → IfAny Q (when_found o f)
-any_when P Q none f h k = tt
-any_when P Q (some a) f h k = k a h
+any_when P Q None f h k = tt
+any_when P Q (Some a) f h k = k a h
 
 -- What has its bits: a collection's processor, a pair's LPI, a delivery, an action, and the fields of a command.
 abbrev SmallTarget : ItsCollection → Type 0
@@ -121,8 +118,8 @@ numbers_small s =
 
 -- A command that was read.
 abbrev SmallDecoded : Decoded → Type 0
-SmallDecoded (Known x) = SmallCommand x
-SmallDecoded (Unknown n) = Unit {0}
+SmallDecoded (Ok x) = SmallCommand x
+SmallDecoded (Err n) = Unit {0}
 
 decoded_small : (ws : List ℕ) → SmallDecoded (decode ws)
 unfolding decode
@@ -147,16 +144,16 @@ SmallTurn (passes x) = SmallCommand x
 SmallTurn (stays r opcode) = Unit {0}
 
 judged_small : (v : Verdict) (x : Command) (opcode : ℕ) → SmallCommand x → SmallTurn (judged v x opcode)
-judged_small Accepted x opcode h = h
-judged_small (Refused r) x opcode h = tt
+judged_small (Ok _) x opcode h = h
+judged_small (Err r) x opcode h = tt
 
 known_small : (u : ItsState) (opcode : ℕ) (d : Decoded) → SmallDecoded d → SmallTurn (turn_on u opcode d)
-known_small u opcode (Known x) h = judged_small (check u x) x opcode h
-known_small u opcode (Unknown n) h = tt
+known_small u opcode (Ok x) h = judged_small (check u x) x opcode h
+known_small u opcode (Err n) h = tt
 
 read_small : (u : ItsState) (o : Option (List ℕ)) → SmallTurn (if_found o (λ ws. turn_on u (opcode_of ws) (decode ws)) (stays NotInWindow 0))
-read_small u none = tt
-read_small u (some ws) = known_small u (opcode_of ws) (decode ws) (decoded_small ws)
+read_small u None = tt
+read_small u (Some ws) = known_small u (opcode_of ws) (decode ws) (decoded_small ws)
 
 turn_small : (w : Window) (u : ItsState) → SmallTurn (turn w u)
 unfolding turn
@@ -169,8 +166,8 @@ module _ (u : ItsState) (s : SmallUnit u) where
   stored d e l c h = record { collections = s.collections; translations = all_set SmallLpi _ (a_translation d e l c) h s.translations }
 
   moved : (d : ItsDeviceId) (e : EventId) (c : CollectionId) (o : Option Translation) → IfAny SmallLpi o → SmallUnit (if_found o (λ r. store_translation d e r.lpi c u) u)
-  moved d e c none h = s
-  moved d e c (some r) h = stored d e r.lpi c h
+  moved d e c None h = s
+  moved d e c (Some r) h = stored d e r.lpi c h
 
   cleared_small : (d : ItsDeviceId) → All SmallLpi (cleared d u).translations
   unfolding cleared
@@ -215,8 +212,8 @@ module _ (u : ItsState) (s : SmallUnit u) where
   acting : (pending : Bool) (d : ItsDeviceId) (e : EventId) → All Small (actions_on pending u d e)
   unfolding actions_on
   acting pending d e =
-      any_list Small (when_found (delivery_in u d e) (λ a. some (action_to pending a)))
-      (any_when SmallDelivery Small (delivery_in u d e) (λ a. some (action_to pending a)) (delivered_small d e) (λ a h. h))
+      any_list Small (when_found (delivery_in u d e) (λ a. Some (action_to pending a)))
+      (any_when SmallDelivery Small (delivery_in u d e) (λ a. Some (action_to pending a)) (delivered_small d e) (λ a h. h))
 
   handed_small : (x : Command) → All Small (actions_of u x)
   handed_small (Mapd d bits valid) = no_more

@@ -3,12 +3,11 @@
 -- Assumes nothing.
 use Rattle.std.specs.Prelude.{ℕ, ◌≡◌, List, [], ◌∷◌, set}
 use Rattle.model.specs.declared.ItsAction.{ItsAction}
-use Rattle.model.specs.declared.WriteAnswer.{WriteAnswer}
+use Rattle.model.specs.Answer.{WriteAnswer}
 use Rattle.model.specs.Queue.{Turn, Ran}
 use Rattle.model.specs.Entry.{answer_of}
 pub use Rattle.decoding.specs.Reading.{lent}
-use Rattle.answers.specs.declared.Turned.{Turned}
-use Rattle.answers.specs.Counting.{unit_past, handed_by, turned_by}
+use Rattle.answers.specs.Counting.{Turned, unit_past, handed_by, turned_by}
 use Rattle.lent_tables.specs.Numbers.{unit_in}
 use Rattle.lent_queue.specs.Actions.{action_word, row_with}
 

@@ -1,37 +1,27 @@
 -- A drop in a table of a unit that is lent as numbers: what is known before each turn, from the first record up and from the last one down.
 -- Assumes nothing.
-use Rattle.std.specs.Prelude.{if◌then◌else◌}
+use Rattle.std.specs.Prelude.{if◌then◌else◌, Some}
 use Prim.Native.Nat.{ℕ, zero, suc, ◌+◌, ◌≤◌, ◌<◌}
 use native.Mathlib.Omega.{arith}
 use mathlib.Core.Path.{◌≡◌, refl, sym, ap, ◌∙◌}
 use mathlib.Core.Bool.{Bool, true, false, ◌&&◌}
 use mathlib.Core.List.{List, [], ◌∷◌}
-use mathlib.Core.Option.{some}
 use lib.ListN.{length, get_or, set}
 use borrow.Author.Tests.{eq-eqb}
 use Rattle.model.specs.declared.CollectionId.{CollectionId}
-use Rattle.model.specs.declared.ItsDevice.{ItsDevice}
-use Rattle.model.specs.declared.ItsCollection.{ItsCollection}
 use Rattle.model.specs.declared.Translation.{Translation}
-use Rattle.model.specs.declared.ItsState.{ItsState}
 use Rattle.model.specs.Choose.{if_found}
 use Rattle.model.specs.Table.{look, drop_all}
-use Rattle.model.specs.Keys.{same_collection, is_pair, no_device, no_collection, no_translation}
-use Rattle.model.specs.With.{with_devices, with_collections, with_translations}
+use Rattle.model.specs.Keys.{same_collection, is_pair, no_translation}
+use Rattle.model.specs.With.{with_translations}
 use Rattle.model.specs.Step.{pair_in}
 use Rattle.model.proofs.Cases.{cases}
-use Rattle.model.proofs.TableLoops.{Dropped, drop_first, drop_starts, drop_hit, drop_miss, drop_ends}
-use Rattle.lent_tables.specs.Numbers.{NUMBERS, DEVICES, COLLECTIONS, device_records, collection_records, pair_records, unit_in, translations_in}
-use Rattle.lent_tables.proofs.RecordsAt.{device_row, collection_row, translation_row, devices_at, collections_at, translations_at, translations_length, store_device_lem, store_collection_lem}
-use Rattle.lent_tables.proofs.Fields.{zero_device, zero_collection}
+use Rattle.model.proofs.TableLoops.{Dropped, drop_starts, drop_hit, drop_miss, drop_ends}
+use Rattle.lent_tables.specs.Numbers.{pair_records, unit_in, translations_in}
+use Rattle.lent_tables.proofs.Slices.{stands}
+use Rattle.lent_tables.proofs.RecordsAt.{translation_row, translations_at, translations_length}
 
 module _ {A : Type 0} where
-  -- the record that is looked at stands as it did
-  first_at_lem : (p : A → Bool) (empty d : A) (i : ℕ) (rs : List A) → get_or (drop_first i p empty rs) i d ≡ get_or rs i d
-  first_at_lem p empty d zero rs = refl
-  first_at_lem p empty d (suc i) [] = refl
-  first_at_lem p empty d (suc i) (r ∷ rs) = first_at_lem p empty d i rs
-
   -- the records from number i on are done
   abbrev pub drop_from : ℕ → (A → Bool) → A → List A → List A
   drop_from zero p empty rs = drop_all p empty rs
@@ -66,72 +56,41 @@ module _ {A : Type 0} where
     from_look : (q : A → Bool) (d : A) (i : ℕ) (rs : List A) → i < length rs → q (get_or rs i d) ≡ true → look q (drop_from (suc i) p empty rs) ≡ look q rs
     from_look q d i [] h t = absurd (omega arith)
     from_look q d zero (r ∷ rs) h t = rw t
-    from_look q d (suc i) (r ∷ rs) h t = ap (λ o. if q r then some r else o) (from_look q d i rs (omega arith) t)
+    from_look q d (suc i) (r ∷ rs) h t = ap (λ o. if q r then Some r else o) (from_look q d i rs (omega arith) t)
 
-  -- what is known of the whole unit: s are the numbers that were lent, t those of now; the table is `part`, and nothing else changed
-  pub record Drops (part : ItsState → List A) (with : ItsState → List A → ItsState) (size : ℕ) (p : A → Bool) (empty : A) (s : List ℕ) (i : ℕ) (t : List ℕ) : Type 0 where
-    pub others : unit_in t ≡ with (unit_in s) (part (unit_in t))
-    pub done : Dropped size p empty (part (unit_in s)) i (part (unit_in t))
+-- what is known before record i: s are the numbers that were lent, t those of now; nothing but the translations has changed
+pub record Drops (p : Translation → Bool) (s : List ℕ) (i : ℕ) (t : List ℕ) : Type 0 where
+  pub others : unit_in t ≡ with_translations (unit_in s) (translations_in t)
+  pub done : Dropped pair_records p no_translation (translations_in s) i (translations_in t)
 
-  module _ {part : ItsState → List A} {with : ItsState → List A → ItsState} {size : ℕ} {p : A → Bool} {empty : A} {s : List ℕ} where
-    pub drops_start : unit_in s ≡ with (unit_in s) (part (unit_in s)) → length (part (unit_in s)) ≡ size → Drops part with size p empty s 0 s
-    drops_start e h = record { others = e; done = drop_starts h }
+pub drops_start : (p : Translation → Bool) (s : List ℕ) → Drops p s 0 s
+drops_start p s = record { others = refl; done = drop_starts (translations_length s) }
 
-    module _ {i : ℕ} {t : List ℕ} (so_far : Drops part with size p empty s i t) (d : A) (h : i < size) {a : A} (at : get_or (part (unit_in t)) i d ≡ a)
-        {v : Bool} (test : v ≡ p a) where
-      told : v ≡ p (get_or (part (unit_in s)) i d)
-      told = test ∙ ap p (sym at ∙ ap (λ l. get_or l i d) so_far.done.done ∙ first_at_lem p empty d i (part (unit_in s)))
+module _ {p : Translation → Bool} {s t : List ℕ} {i : ℕ} (so_far : Drops p s i t) (h : i < pair_records) {v : Bool} (test : v ≡ p (translation_row t i)) where
+  told : v ≡ p (get_or (translations_in s) i no_translation)
+  told =
+      test ∙ ap p (sym (translations_at t i no_translation h) ∙ ap (λ l. get_or l i no_translation) so_far.done.done
+      ∙ stands p no_translation no_translation i (translations_in s))
 
-      -- a store leaves the table with the free record, and a second store what it stores
-      pub drops_hit : v ≡ true → {t' : List ℕ} → unit_in t' ≡ with (unit_in t) (set (part (unit_in t)) i empty) → ((u : ItsState) (x : List A) → part (with u x) ≡ x) →
-          ((u : ItsState) (x y : List A) → with (with u x) y ≡ with u y) → Drops part with size p empty s (i + 1) t'
-      drops_hit b {t'} e gives twice =
-          let stored = set (part (unit_in t)) i empty in
-          let f : part (unit_in t') ≡ stored = ap part e ∙ gives (unit_in t) stored in
-          record {
-            others = e ∙ (ap (λ u. with u stored) so_far.others ∙ (twice (unit_in s) (part (unit_in t)) stored ∙ ap (with (unit_in s)) (sym f)));
-            done = drop_hit so_far.done d h told b refl f;
-          }
+  pub drops_hit : v ≡ true → {t' : List ℕ} → unit_in t' ≡ with_translations (unit_in t) (set (translations_in t) i no_translation) → {t'' : List ℕ} → t'' ≡ t' →
+      Drops p s (i + 1) t''
+  drops_hit b e f =
+      rw f (record {
+        others =
+            e ∙ ap (λ u. with_translations u (set (translations_in t) i no_translation)) so_far.others ∙
+            ap (with_translations (unit_in s)) (sym (ap (λ u. u.translations) e));
+        done = drop_hit so_far.done no_translation h told b refl (ap (λ u. u.translations) e);
+      })
 
-      pub drops_miss : v ≡ false → {t' : List ℕ} → t' ≡ t → Drops part with size p empty s (i + 1) t'
-      drops_miss b e = rw e (record { others = so_far.others; done = drop_miss so_far.done d h told b refl })
+  pub drops_miss : v ≡ false → {t' : List ℕ} → t' ≡ t → Drops p s (i + 1) t'
+  drops_miss b e = rw e (record { others = so_far.others; done = drop_miss so_far.done no_translation h told b refl })
 
-    pub drops_end : {i : ℕ} {t : List ℕ} → Drops part with size p empty s i t → size ≤ i → unit_in t ≡ with (unit_in s) (drop_all p empty (part (unit_in s)))
-    drops_end so_far h = so_far.others ∙ ap (with (unit_in s)) (drop_ends so_far.done h)
+pub drops_end : {p : Translation → Bool} {s t : List ℕ} {i : ℕ} → Drops p s i t → pair_records ≤ i →
+    unit_in t ≡ with_translations (unit_in s) (drop_all p no_translation (translations_in s))
+drops_end {s = s} so_far h = so_far.others ∙ ap (with_translations (unit_in s)) (drop_ends so_far.done h)
 
--- The three tables.
-abbrev pub DevicesDrop : (ItsDevice → Bool) → List ℕ → ℕ → List ℕ → Type 0
-DevicesDrop p = Drops (λ u. u.devices) with_devices device_records p no_device
-
-abbrev pub CollectionsDrop : (ItsCollection → Bool) → List ℕ → ℕ → List ℕ → Type 0
-CollectionsDrop p = Drops (λ u. u.collections) with_collections collection_records p no_collection
-
-abbrev pub TranslationsDrop : (Translation → Bool) → List ℕ → ℕ → List ℕ → Type 0
-TranslationsDrop p = Drops (λ u. u.translations) with_translations pair_records p no_translation
-
-module _ {p : ItsDevice → Bool} {s t : List ℕ} {i : ℕ} (so_far : DevicesDrop p s i t) (h : i < device_records) {v : Bool} (test : v ≡ p (device_row t i)) where
-  pub device_dropped : length t ≡ NUMBERS → v ≡ true → {t' : List ℕ} → t' ≡ set t (DEVICES + i) 0 → DevicesDrop p s (i + 1) t'
-  device_dropped long b e =
-      rw e (drops_hit so_far no_device h (devices_at t i no_device h) test b (store_device_lem t long i 0 h zero_device) (λ u x. refl) (λ u x y. refl))
-
-  pub device_left : v ≡ false → {t' : List ℕ} → t' ≡ t → DevicesDrop p s (i + 1) t'
-  device_left = drops_miss so_far no_device h (devices_at t i no_device h) test
-
-module _ {p : ItsCollection → Bool} {s t : List ℕ} {i : ℕ} (so_far : CollectionsDrop p s i t) (h : i < collection_records) {v : Bool} (test : v ≡ p (collection_row t i)) where
-  pub collection_dropped : length t ≡ NUMBERS → v ≡ true → {t' : List ℕ} → t' ≡ set t (COLLECTIONS + i) 0 → CollectionsDrop p s (i + 1) t'
-  collection_dropped long b e =
-      rw e (drops_hit so_far no_collection h (collections_at t i no_collection h) test b (store_collection_lem t long i 0 h zero_collection) (λ u x. refl) (λ u x y. refl))
-
-  pub collection_left : v ≡ false → {t' : List ℕ} → t' ≡ t → CollectionsDrop p s (i + 1) t'
-  collection_left = drops_miss so_far no_collection h (collections_at t i no_collection h) test
-
-module _ {p : Translation → Bool} {s t : List ℕ} {i : ℕ} (so_far : TranslationsDrop p s i t) (h : i < pair_records) {v : Bool} (test : v ≡ p (translation_row t i)) where
-  pub translation_dropped : v ≡ true → {t' t'' : List ℕ} → t'' ≡ t' → unit_in t' ≡ with_translations (unit_in t) (set (translations_in t) i no_translation) →
-      TranslationsDrop p s (i + 1) t''
-  translation_dropped b f e = rw f (drops_hit so_far no_translation h (translations_at t i no_translation h) test b e (λ u x. refl) (λ u x y. refl))
-
-  pub translation_left : v ≡ false → {t' : List ℕ} → t' ≡ t → TranslationsDrop p s (i + 1) t'
-  translation_left = drops_miss so_far no_translation h (translations_at t i no_translation h) test
+-- what a drop is proved from
+pub ruleset dropping = (drops_start, drops_hit, drops_miss, drops_end)
 
 -- The translations from the last record down: whether a record goes is asked of the records up to it, which stand as they did.
 kept : (c : CollectionId) (p : Translation → Bool) (rs : List Translation) (i : ℕ) → i < length rs →

@@ -3,20 +3,18 @@
 use Rattle.std.specs.Prelude.{if◌then◌else◌}
 use Prim.Native.Nat.{ℕ, ◌+◌, ◌*◌, ◌/◌, ◌%◌, ◌^◌, ◌≤◌, ◌<◌}
 use native.Mathlib.Omega.{arith}
-use mathlib.Core.Path.{◌≡◌, refl}
-use mathlib.Core.Bool.{Bool, true, false, ◌&&◌}
-use mathlib.Core.List.{[], ◌∷◌}
+use mathlib.Core.Path.{◌≡◌, refl, sym, ◌∙◌}
+use mathlib.Core.Bool.{Bool, true, false, ◌&&◌, and-true, and-false}
 use lib.Dec.{eqb}
 use borrow.Author.Tests.{le-leb, lt-leb, eqb-true, eqb-false, eq-eqb, ne_eqb}
-use Rattle.model.specs.declared.GicVcpuId.{GicVcpuId}
 use Rattle.model.specs.declared.ItsDeviceId.{ItsDeviceId}
 use Rattle.model.specs.declared.EventId.{EventId}
 use Rattle.model.specs.declared.ItsDevice.{ItsDevice}
 use Rattle.model.specs.declared.ItsCollection.{ItsCollection}
 use Rattle.model.specs.declared.Translation.{Translation}
-use Rattle.model.specs.Keys.{no_device, no_collection, no_translation}
+use Rattle.model.specs.Keys.{is_pair, no_device, no_collection, no_translation}
 use Rattle.model.proofs.Cases.{cases}
-use Rattle.lent_tables.specs.Numbers.{is_used, processor_in, processor_at, rows, device_in, collection_in, translation_in}
+use Rattle.lent_tables.specs.Numbers.{is_used, device_in, collection_in, translation_in}
 
 -- the highest bit
 abbrev pub high : Bool → ℕ
@@ -50,18 +48,6 @@ low16_is false x y h = omega arith
 second16_is : (u : Bool) (x y : ℕ) → y < 2 ^ 16 → x < 2 ^ 16 → (high u + x * 2 ^ 16 + y) / 2 ^ 16 % 2 ^ 16 ≡ x
 second16_is true x y h k = omega arith
 second16_is false x y h k = omega arith
-
-packed0 : (a b c d : ℕ) → a < 2 ^ 16 → (d * 2 ^ 48 + c * 2 ^ 32 + b * 2 ^ 16 + a) / 1 % 2 ^ 16 ≡ a
-packed0 a b c d ha = omega arith
-
-packed1 : (a b c d : ℕ) → a < 2 ^ 16 → b < 2 ^ 16 → (d * 2 ^ 48 + c * 2 ^ 32 + b * 2 ^ 16 + a) / 2 ^ 16 % 2 ^ 16 ≡ b
-packed1 a b c d ha hb = omega arith
-
-packed2 : (a b c d : ℕ) → a < 2 ^ 16 → b < 2 ^ 16 → c < 2 ^ 16 → (d * 2 ^ 48 + c * 2 ^ 32 + b * 2 ^ 16 + a) / 2 ^ 32 % 2 ^ 16 ≡ c
-packed2 a b c d ha hb hc = omega arith
-
-packed3 : (a b c d : ℕ) → a < 2 ^ 16 → b < 2 ^ 16 → c < 2 ^ 16 → d < 2 ^ 16 → (d * 2 ^ 48 + c * 2 ^ 32 + b * 2 ^ 16 + a) / 2 ^ 48 % 2 ^ 16 ≡ d
-packed3 a b c d ha hb hc hd = omega arith
 
 -- the words of the records
 pub device_made : (r : ItsDevice) → r.device.0 < 2 ^ 32 → r.event_bits < 2 ^ 8 →
@@ -102,29 +88,6 @@ goal_made r e h k =
       used_is r.used (r.collection.0 * 2 ^ 32) r.lpi.0 (omega arith),
     )
 
--- four processors in a word
-pub first_at_lem : (w : ℕ) → processor_at w 0 ≡ processor_in w
-first_at_lem w =
-    let e : w / 1 ≡ w = omega arith in
-    rw e
-
-pub four_packed : (a b c d : GicVcpuId) → a.0 < 2 ^ 16 → b.0 < 2 ^ 16 → c.0 < 2 ^ 16 → d.0 < 2 ^ 16 →
-    rows 4 (processor_at (d.0 * 2 ^ 48 + c.0 * 2 ^ 32 + b.0 * 2 ^ 16 + a.0)) ≡ (a ∷ b ∷ c ∷ d ∷ [])
-four_packed a b c d ha hb hc hd =
-    rw (
-      packed0 a.0 b.0 c.0 d.0 ha,
-      packed1 a.0 b.0 c.0 d.0 ha hb,
-      packed2 a.0 b.0 c.0 d.0 ha hb hc,
-      packed3 a.0 b.0 c.0 d.0 ha hb hc hd,
-    )
-
--- a key's halves are the device and the event
-pub key_device : (d : ItsDeviceId) (e : EventId) → e.0 < 2 ^ 32 → {w : ℕ} → w ≡ d.0 * 2 ^ 32 + e.0 → record { 0 = w / 2 ^ 32 } ≡ d
-key_device d e h k = rw (k, key_high d.0 e.0 h)
-
-pub key_event : (d : ItsDeviceId) (e : EventId) → e.0 < 2 ^ 32 → {w : ℕ} → w ≡ d.0 * 2 ^ 32 + e.0 → record { 0 = w % 2 ^ 32 } ≡ e
-key_event d e h k = rw (k, key_low d.0 e.0 h)
-
 -- a key is its two halves
 pub same_key : (k w : ℕ) → eqb k w ≡ (eqb (k / 2 ^ 32) (w / 2 ^ 32) && eqb (k % 2 ^ 32) (w % 2 ^ 32))
 same_key k w =
@@ -133,6 +96,23 @@ same_key k w =
     (λ f. rw (e, f) (eq-eqb k w (omega (arith, eqb-true (k / 2 ^ 32) (w / 2 ^ 32) e, eqb-true (k % 2 ^ 32) (w % 2 ^ 32) f))))
     (λ f. rw (e, f) (ne_eqb k w (λ q. eqb-false (k % 2 ^ 32) (w % 2 ^ 32) f (omega arith)))))
     (λ e. rw e (ne_eqb k w (λ q. eqb-false (k / 2 ^ 32) (w / 2 ^ 32) e (omega arith))))
+
+-- whether two words are the record of a pair
+pub pair_test : (d : ItsDeviceId) (e : EventId) (k g : ℕ) → e.0 < 2 ^ 32 → is_pair d e (translation_in k g) ≡ (is_used g && eqb k (d.0 * 2 ^ 32 + e.0))
+unfolding translation_in
+pair_test d e k g h = sym (rw (same_key k (d.0 * 2 ^ 32 + e.0), key_high d.0 e.0 h, key_low d.0 e.0 h))
+
+pub pair_hit : (d : ItsDeviceId) (e : EventId) (k g : ℕ) → e.0 < 2 ^ 32 → {w : ℕ} → w ≡ d.0 * 2 ^ 32 + e.0 → k ≡ w → {u : Bool} → u ≡ is_used g →
+    u ≡ is_pair d e (translation_in k g)
+pair_hit d e k g h a b c =
+    let q : eqb k (d.0 * 2 ^ 32 + e.0) ≡ true = eq-eqb k (d.0 * 2 ^ 32 + e.0) (b ∙ a) in
+    c ∙ sym (pair_test d e k g h ∙ rw q (and-true (is_used g)))
+
+pub pair_miss : (d : ItsDeviceId) (e : EventId) (k g : ℕ) → e.0 < 2 ^ 32 → {w : ℕ} → w ≡ d.0 * 2 ^ 32 + e.0 → (k ≡ w → ⊥) → {u : Bool} → u ≡ eqb k w →
+    u ≡ is_pair d e (translation_in k g)
+pair_miss d e k g h {w} a b c =
+    let q : eqb k (d.0 * 2 ^ 32 + e.0) ≡ false = ne_eqb k (d.0 * 2 ^ 32 + e.0) (λ f. b (f ∙ sym a)) in
+    c ∙ ne_eqb k w b ∙ sym (pair_test d e k g h ∙ rw q (and-false (is_used g)))
 
 -- a word that is 0 is free
 pub zero_device : device_in 0 ≡ no_device

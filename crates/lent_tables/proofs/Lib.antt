@@ -1,8 +1,8 @@
 pub mod Rows
+pub mod Made
 pub mod Outside
 pub mod RecordsAt
 pub mod Fields
-pub mod Finds
+pub mod Slices
 pub mod Drops
 pub mod Parts
-pub mod Among

@@ -96,3 +96,6 @@ module _ (s : List ℕ) (long : length s ≡ NUMBERS) where
       translations_changed
       (outside_twice (outside_set s (KEYS + i) k (omega arith) (omega arith)) (outside_set (set s (KEYS + i) k) (GOALS + i) g (omega arith) (omega arith)))
       (translation_stored i k g h ∙ ap (set (translations_in s) i) e)
+
+-- for what reads or stores where a search came to
+pub ruleset lengths = (devices_length, collections_length, translations_length)

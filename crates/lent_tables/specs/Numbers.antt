@@ -10,7 +10,7 @@ use Rattle.model.specs.declared.ItsConfig.{ItsConfig}
 use Rattle.model.specs.declared.ItsRegisters.{ItsRegisters}
 use Rattle.model.specs.declared.ItsState.{ItsState}
 use Rattle.model.specs.declared.Command.{Command}
-use Rattle.model.specs.declared.Executed.{Executed}
+use Rattle.model.specs.Answer.{Executed}
 use Rattle.model.specs.With.{a_unit, the_registers, a_config}
 use Rattle.model.specs.Config.{no_config}
 use Rattle.model.specs.Step.{stepped, executed}

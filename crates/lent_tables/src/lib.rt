@@ -1,10 +1,12 @@
 // The unit as numbers that a host owns and lends: which unit they are is said in specs/Numbers.antt. No word of it is copied to change
 // one of them. Here are its parts; records.rt has the searches and drops.
+// Stays: numbers at fixed places, the goals apart from their keys, are the layout that the C interface lends (include/its.h); and the same parts stand by
+// value in crate `tables`, since two texts are a rule of the project (tools/towers.sh).
 #![tactic(auto)]
 
 pub mod records;
 
-ghost use Rattle.std.specs.Prelude.{◌≡◌, true, [], ◌∷◌, ◌*◌, ◌+◌, ◌%◌, ◌^◌, ◌<◌, length, set, if◌then◌else◌};
+ghost use Rattle.std.specs.Prelude.{◌≡◌, true, [], ◌∷◌, ◌*◌, ◌+◌, ◌%◌, ◌^◌, ◌<◌, set, if◌then◌else◌};
 ghost use Rattle.model.specs.With.{with_config, with_registers, with_devices, with_collections, with_translations, with_processors};
 ghost use Rattle.model.specs.Config.{no_config};
 ghost use Rattle.model.specs.Register.{one_if};
@@ -36,8 +38,9 @@ ghost use Rattle.lent_tables.specs.Numbers.{
 
 use model::{
     CollectionId, EventId, GicVcpuId, ItsCollection, ItsConfig, ItsDevice, ItsDeviceId,
-    ItsRegisters, LpiId, Translation,
+    ItsRegisters, LpiId, Pair, Translation,
 };
+use std::array;
 
 // How many numbers there are, and where each part begins. specs/Numbers.antt says what stands there, under the same names.
 pub const NUMBERS: usize = 608;
@@ -105,6 +108,13 @@ fn processor_in(w: u64) -> GicVcpuId
     GicVcpuId(low16(w))
 }
 
+fn processor_at(w: u64, i: usize) -> GicVcpuId
+    requires { i < 4 }
+    ensures { result ≡ processor_at w i }
+{
+    processor_in(w >> (16 * i))
+}
+
 // Whether a record is used.
 pub fn is_used(w: u64) -> bool
     ensures { result ≡ is_used w }
@@ -112,42 +122,37 @@ pub fn is_used(w: u64) -> bool
     0x8000_0000_0000_0000 <= w
 }
 
+#[tactic(auto, unfolding(crate::specs::Numbers::device_in))]
 pub fn device_in(w: u64) -> ItsDevice
     ensures { result ≡ device_in w }
 {
-    let device = ItsDeviceId(low32(w));
-    let bits = (w / 0x1_0000_0000 % 0x100) as u8;
     ItsDevice {
-        device: device,
-        event_bits: bits,
+        device: ItsDeviceId(low32(w)),
+        event_bits: (w / 0x1_0000_0000 % 0x100) as u8,
         used: is_used(w),
     }
 }
 
+#[tactic(auto, unfolding(crate::specs::Numbers::collection_in))]
 pub fn collection_in(w: u64) -> ItsCollection
     ensures { result ≡ collection_in w }
 {
-    let collection = CollectionId(low16(w));
-    let target = processor_in(w / 0x1_0000);
     ItsCollection {
-        collection: collection,
-        target: target,
+        collection: CollectionId(low16(w)),
+        target: processor_in(w / 0x1_0000),
         used: is_used(w),
     }
 }
 
+#[tactic(auto, unfolding(crate::specs::Numbers::translation_in))]
 pub fn translation_in(key: u64, goal: u64) -> Translation
     ensures { result ≡ translation_in key goal }
 {
-    let device = ItsDeviceId((key / 0x1_0000_0000) as u32);
-    let event = EventId(low32(key));
-    let lpi = LpiId(low32(goal));
-    let collection = CollectionId(low16(goal / 0x1_0000_0000));
     Translation {
-        device: device,
-        event: event,
-        lpi: lpi,
-        collection: collection,
+        device: ItsDeviceId((key / 0x1_0000_0000) as u32),
+        event: EventId(low32(key)),
+        lpi: LpiId(low32(goal)),
+        collection: CollectionId(low16(goal / 0x1_0000_0000)),
         used: is_used(goal),
     }
 }
@@ -156,49 +161,45 @@ pub fn translation_in(key: u64, goal: u64) -> Translation
 fn used_word(used: bool) -> u64
     ensures { result ≡ (if used then 2 ^ 63 else 0) }
 {
-    if used { 0x8000_0000_0000_0000 } else { 0 }
+    u64::from(used) * 0x8000_0000_0000_0000
 }
 
 // Four processors in a word, the first lowest.
+// Stays: four parameters. Of a part of an array behind a reference the check does not know that each number fits, and its bounds stayed open.
 fn packed(a: GicVcpuId, b: GicVcpuId, c: GicVcpuId, d: GicVcpuId) -> u64
     ensures { rows 4 (processor_at result) ≡ (a ∷ b ∷ c ∷ d ∷ []) }
 {
-    (d.0 as u64) * 0x1_0000_0000_0000
-        + (c.0 as u64) * 0x1_0000_0000
-        + (b.0 as u64) * 0x1_0000
+    d.0 as u64 * 0x1_0000_0000_0000
+        + c.0 as u64 * 0x1_0000_0000
+        + b.0 as u64 * 0x1_0000
         + a.0 as u64
 }
 
+#[tactic(auto, using(crate::proofs::Fields::device_made))]
 fn device_word(r: ItsDevice) -> u64
     ensures { device_in result ≡ r }
 {
-    used_word(r.used) + (r.event_bits as u64) * 0x1_0000_0000 + r.device.0 as u64
+    used_word(r.used) + r.event_bits as u64 * 0x1_0000_0000 + r.device.0 as u64
 }
 
+#[tactic(auto, using(crate::proofs::Fields::collection_made))]
 fn collection_word(r: ItsCollection) -> u64
     ensures { collection_in result ≡ r }
 {
-    used_word(r.used) + (r.target.0 as u64) * 0x1_0000 + r.collection.0 as u64
+    used_word(r.used) + r.target.0 as u64 * 0x1_0000 + r.collection.0 as u64
 }
 
-pub fn key_of(device: ItsDeviceId, event: EventId) -> u64
-    ensures { result ≡ device.0 * 2 ^ 32 + event.0 }
+pub fn key_of(pair: Pair) -> u64
+    ensures { result ≡ pair.device.0 * 2 ^ 32 + pair.event.0 }
 {
-    (device.0 as u64) * 0x1_0000_0000 + event.0 as u64
+    pair.device.0 as u64 * 0x1_0000_0000 + pair.event.0 as u64
 }
 
+#[tactic(auto, using(crate::proofs::Fields::goal_made))]
 fn goal_word(r: Translation) -> u64
     ensures { translation_in (r.device.0 * 2 ^ 32 + r.event.0) result ≡ r }
 {
-    used_word(r.used) + (r.collection.0 as u64) * 0x1_0000_0000 + r.lpi.0 as u64
-}
-
-// As many numbers are lent as the unit has: it costs nothing, and a proof of a store has it from here.
-pub fn whole(state: &Numbers) -> usize
-    ensures { length state.now ≡ NUMBERS }
-{
-    let all: &[u64] = state;
-    all.len()
+    used_word(r.used) + r.collection.0 as u64 * 0x1_0000_0000 + r.lpi.0 as u64
 }
 
 // Configuration and registers. Under another layout the configuration is that of a unit that has none.
@@ -213,24 +214,29 @@ fn setting(state: &Numbers, at: usize) -> u32
     requires { at < NUMBERS }
     ensures { result ≡ setting_at state.now at }
 {
-    if !is_laid_out(state) {
-        return 0;
+    if is_laid_out(state) {
+        low32(state[at])
+    } else {
+        0
     }
-    low32(state[at])
 }
 
+// Stays: a function each, for each promises its field of the configuration; `setting` is what they share.
+#[tactic(auto, using(crate::proofs::Parts::limit_is))]
 pub fn lpi_limit_in(state: &Numbers) -> u32
     ensures { result ≡ (config_in state.now).lpi_limit }
 {
     setting(state, LPI_LIMIT)
 }
 
+#[tactic(auto, using(crate::proofs::Parts::budget_is))]
 pub fn command_budget_in(state: &Numbers) -> u32
     ensures { result ≡ (config_in state.now).command_budget }
 {
     setting(state, COMMAND_BUDGET)
 }
 
+#[tactic(auto, using(crate::proofs::Parts::profile_is))]
 pub fn profile_in(state: &Numbers) -> u32
     ensures { result ≡ (config_in state.now).profile }
 {
@@ -240,85 +246,50 @@ pub fn profile_in(state: &Numbers) -> u32
 fn no_config() -> ItsConfig
     ensures { result ≡ no_config }
 {
-    let processor = GicVcpuId(0);
-    let processors = [processor; 16];
     ItsConfig {
         lpi_limit: 0,
         command_budget: 0,
         frame_size: 0,
         profile: 0,
         processor_count: 0,
-        processors: processors,
+        processors: [GicVcpuId(0); 16],
     }
 }
 
 fn config_at(state: &Numbers) -> ItsConfig
     ensures { result ≡ config_at state.now }
 {
-    let w4 = state[PROCESSORS];
-    let w5 = state[PROCESSORS + 1];
-    let w6 = state[PROCESSORS + 2];
-    let w7 = state[PROCESSORS + 3];
-    let processors = [
-        processor_in(w4),
-        processor_in(w4 / 0x1_0000),
-        processor_in(w4 / 0x1_0000_0000),
-        processor_in(w4 / 0x1_0000_0000_0000),
-        processor_in(w5),
-        processor_in(w5 / 0x1_0000),
-        processor_in(w5 / 0x1_0000_0000),
-        processor_in(w5 / 0x1_0000_0000_0000),
-        processor_in(w6),
-        processor_in(w6 / 0x1_0000),
-        processor_in(w6 / 0x1_0000_0000),
-        processor_in(w6 / 0x1_0000_0000_0000),
-        processor_in(w7),
-        processor_in(w7 / 0x1_0000),
-        processor_in(w7 / 0x1_0000_0000),
-        processor_in(w7 / 0x1_0000_0000_0000),
-    ];
-    let count = (state[PROCESSOR_COUNT] % 0x100) as u8;
     ItsConfig {
         lpi_limit: low32(state[LPI_LIMIT]),
         command_budget: low32(state[COMMAND_BUDGET]),
         frame_size: low32(state[FRAME_SIZE]),
         profile: low32(state[PROFILE]),
-        processor_count: count,
-        processors: processors,
+        processor_count: (state[PROCESSOR_COUNT] % 0x100) as u8,
+        processors: array::from_fn(|i| processor_at(state[PROCESSORS + i / 4], i % 4)),
     }
 }
 
+#[tactic(auto, using(crate::proofs::Parts::config_there, crate::proofs::Parts::config_none))]
 pub fn config_in(state: &Numbers) -> ItsConfig
     ensures { result ≡ config_in state.now }
 {
-    if !is_laid_out(state) {
-        return no_config();
+    if is_laid_out(state) {
+        config_at(state)
+    } else {
+        no_config()
     }
-    config_at(state)
 }
 
 pub fn registers_in(state: &Numbers) -> ItsRegisters
     ensures { result ≡ registers_in state.now }
 {
-    let stalled = state[STALLED] % 2 == 1;
-    let enabled = state[ENABLED] % 2 == 1;
-    let basers = [
-        state[BASERS],
-        state[BASERS + 1],
-        state[BASERS + 2],
-        state[BASERS + 3],
-        state[BASERS + 4],
-        state[BASERS + 5],
-        state[BASERS + 6],
-        state[BASERS + 7],
-    ];
     ItsRegisters {
-        enabled: enabled,
-        stalled: stalled,
+        enabled: state[ENABLED] % 2 == 1,
+        stalled: state[STALLED] % 2 == 1,
         cbaser: state[CBASER],
         creadr: state[CREADR],
         cwriter: state[CWRITER],
-        basers: basers,
+        basers: array::from_fn(|i| state[BASERS + i]),
     }
 }
 
@@ -326,111 +297,92 @@ fn put_processors(state: &mut Numbers, processors: [GicVcpuId; 16])
     requires { laid_out state.old ≡ true }
     ensures { unit_in state.new ≡ with_config (unit_in state.old) (with_processors (config_in state.old) processors) }
 {
-    let _all = whole(state);
-    let w4 = packed(processors[0], processors[1], processors[2], processors[3]);
-    let w5 = packed(processors[4], processors[5], processors[6], processors[7]);
-    let w6 = packed(processors[8], processors[9], processors[10], processors[11]);
-    let w7 = packed(
+    state[PROCESSORS] = packed(processors[0], processors[1], processors[2], processors[3]);
+    state[PROCESSORS + 1] = packed(processors[4], processors[5], processors[6], processors[7]);
+    state[PROCESSORS + 2] = packed(processors[8], processors[9], processors[10], processors[11]);
+    state[PROCESSORS + 3] = packed(
         processors[12],
         processors[13],
         processors[14],
         processors[15],
     );
-    state[PROCESSORS] = w4;
-    state[PROCESSORS + 1] = w5;
-    state[PROCESSORS + 2] = w6;
-    state[PROCESSORS + 3] = w7;
 }
 
+#[tactic(auto, using(crate::proofs::Parts::begins, crate::proofs::Parts::config_put))]
 pub fn put_config(state: &mut Numbers, config: ItsConfig)
     ensures { unit_in state.new ≡ with_config (unit_in state.old) config }
 {
-    let _all = whole(state);
-    let processors = config.processors;
     state[LAYOUT] = LAYOUT_NUMBER;
     state[LPI_LIMIT] = config.lpi_limit as u64;
     state[COMMAND_BUDGET] = config.command_budget as u64;
     state[FRAME_SIZE] = config.frame_size as u64;
     state[PROFILE] = config.profile as u64;
     state[PROCESSOR_COUNT] = config.processor_count as u64;
-    put_processors(state, processors);
+    put_processors(state, config.processors);
 }
 
 fn bit_word(set: bool) -> u64
     ensures { result ≡ one_if set }
 {
-    if set { 1 } else { 0 }
+    u64::from(set)
 }
 
 pub fn put_registers(state: &mut Numbers, registers: ItsRegisters)
     ensures { unit_in state.new ≡ with_registers (unit_in state.old) registers }
 {
-    let _all = whole(state);
-    let basers = registers.basers;
-    let stalled = bit_word(registers.stalled);
-    let enabled = bit_word(registers.enabled);
-    state[STALLED] = stalled;
-    state[ENABLED] = enabled;
+    state[STALLED] = bit_word(registers.stalled);
+    state[ENABLED] = bit_word(registers.enabled);
     state[CBASER] = registers.cbaser;
     state[CREADR] = registers.creadr;
     state[CWRITER] = registers.cwriter;
-    state[BASERS] = basers[0];
-    state[BASERS + 1] = basers[1];
-    state[BASERS + 2] = basers[2];
-    state[BASERS + 3] = basers[3];
-    state[BASERS + 4] = basers[4];
-    state[BASERS + 5] = basers[5];
-    state[BASERS + 6] = basers[6];
-    state[BASERS + 7] = basers[7];
+    state[BASERS..DEVICES].copy_from_slice(&registers.basers);
 }
 
 // CREADR passes a command.
+#[tactic(auto, using(crate::proofs::Parts::creadr_put), unfolding(crate::specs::Numbers::registers_in))]
 pub fn pass_command(state: &mut Numbers)
     requires { word state.old CREADR < 2 ^ 32 }
     ensures { unit_in state.new ≡ with_registers (unit_in state.old) (past_command (registers_in state.old)) }
 {
-    let _all = whole(state);
     let size = words::queue_size(state[CBASER]);
-    let next = state[CREADR] + 32;
-    state[CREADR] = next % size;
+    state[CREADR] = (state[CREADR] + 32) % size;
 }
 
 // A refused command stalls the unit, in strict.
+#[tactic(auto, using(crate::proofs::Parts::stalled_put, crate::proofs::Parts::stalled_not))]
 pub fn stall(state: &mut Numbers)
     ensures { unit_in state.new ≡ stallOf (unit_in state.old) }
 {
-    let _all = whole(state);
     if profile_in(state) == 1 {
         state[STALLED] = 1;
     }
 }
 
 // A record of a table, stored.
+#[tactic(auto, using(crate::proofs::RecordsAt::store_device_lem))]
 pub fn put_device(state: &mut Numbers, at: usize, r: ItsDevice)
     requires { at < device_records }
     ensures { unit_in state.new ≡ with_devices (unit_in state.old) (set (devices_in state.old) at r) }
 {
-    let _all = whole(state);
-    let w = device_word(r);
-    state[DEVICES + at] = w;
+    state[DEVICES + at] = device_word(r);
 }
 
+#[tactic(auto, using(crate::proofs::RecordsAt::store_collection_lem))]
 pub fn put_collection(state: &mut Numbers, at: usize, r: ItsCollection)
     requires { at < collection_records }
     ensures { unit_in state.new ≡ with_collections (unit_in state.old) (set (collections_in state.old) at r) }
 {
-    let _all = whole(state);
-    let w = collection_word(r);
-    state[COLLECTIONS + at] = w;
+    state[COLLECTIONS + at] = collection_word(r);
 }
 
+#[tactic(auto, using(crate::proofs::RecordsAt::store_translation_lem))]
 pub fn put_translation(state: &mut Numbers, at: usize, r: Translation)
     requires { at < pair_records }
     ensures { unit_in state.new ≡ with_translations (unit_in state.old) (set (translations_in state.old) at r) }
 {
-    let _all = whole(state);
-    let key = key_of(r.device, r.event);
-    let goal = goal_word(r);
-    state[KEYS + at] = key;
-    state[GOALS + at] = goal;
+    state[KEYS + at] = key_of(Pair {
+        device: r.device,
+        event: r.event,
+    });
+    state[GOALS + at] = goal_word(r);
 }

@@ -1,10 +1,10 @@
 -- The record of a table that counts for a key: the one that a look finds, and no other.
 -- Assumes nothing.
+use Rattle.std.specs.Prelude.{Some}
 use Prim.Native.Nat.{ℕ, ◌<◌}
 use mathlib.Core.Path.{◌≡◌, refl, sym, ap, ◌∙◌}
 use mathlib.Core.Bool.{Bool, true}
 use mathlib.Core.List.{List}
-use mathlib.Core.Option.{some}
 use lib.Dec.{eqb, ltb}
 use lib.ListN.{length, get_or}
 use borrow.Author.Tests.{eqb-true, eq-eqb, ltb-true, lt-ltb}
@@ -21,10 +21,10 @@ module _ {A : Type 0} (p : A → Bool) (rs : List A) where
     pub counting_first : first_at p rs ≡ i
     counting_first = eqb-true _ _ (and_right (ltb (first_at p rs) (length rs)) (eqb (first_at p rs) i) t)
 
-    pub counting_look : (d : A) → look p rs ≡ some (get_or rs i d)
-    counting_look d = look_at p rs d counting_below ∙ ap (λ z. some (get_or rs z d)) counting_first
+    pub counting_look : (d : A) → look p rs ≡ Some (get_or rs i d)
+    counting_look d = look_at p rs d counting_below ∙ ap (λ z. Some (get_or rs z d)) counting_first
 
-  module _ {a : A} (l : look p rs ≡ some a) where
+  module _ {a : A} (l : look p rs ≡ Some a) where
     pub looked_counts : counts (length rs) (first_at p rs) (first_at p rs) ≡ true
     looked_counts = both (ltb (first_at p rs) (length rs)) (eqb (first_at p rs) (first_at p rs)) (lt-ltb _ _ (look_found p rs l)) (eq-eqb (first_at p rs) (first_at p rs) refl)
 

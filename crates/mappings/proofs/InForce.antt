@@ -1,8 +1,8 @@
 -- THE THEOREM: of every unit to which calls led, the lists are those of the history.
 -- Assumes nothing.
+use Rattle.std.specs.Prelude.{Option, Some}
 use mathlib.Core.Path.{◌≡◌, sym, ap, ◌∙◌}
 use mathlib.Core.List.{List}
-use mathlib.Core.Option.{Option, some}
 use Rattle.model.specs.declared.ItsDeviceId.{ItsDeviceId}
 use Rattle.model.specs.declared.EventId.{EventId}
 use Rattle.model.specs.declared.CollectionId.{CollectionId}
@@ -21,7 +21,7 @@ use Rattle.model.proofs.Paragraph.{in_force}
 use Rattle.guarantees.specs.MappingsInForce.{Led}
 use Rattle.guarantees.proofs.InForce.{held}
 use Rattle.mappings.specs.Listed.{Listed}
-use Rattle.mappings.proofs.Holds.{Holds, listed_held, held_listed, only_in_force, pair_once}
+use Rattle.mappings.proofs.Holds.{Holds, listed_held, held_listed, pair_once}
 use Rattle.mappings.proofs.HoldsDevices.{listed_bits, bits_listed, only_used, device_once}
 
 module _ {k : ItsConfig} {u : ItsState} {h : List Command} (keeps : Held k u h) where
@@ -38,16 +38,16 @@ module _ {k : ItsConfig} {u : ItsState} {h : List Command} (keeps : Held k u h) 
 
     in_unit : InForce f h d e l c × ProcessorOf h c p → Holds u d e l c p
     in_unit (i, o) =
-        let now : pair_now f d e h ≡ some (an_entry l c) = (in_force f d e h l c).0 i in
+        let now : pair_now f d e h ≡ Some (an_entry l c) = (in_force f d e h l c).0 i in
         let (p', q) = found (collection_now c h) (keeps.backing.behind d e (an_entry l c) (ap (λ z. pair_now (profile_of z) d e h) (sym keeps.config) ∙ now)).collection in
-        let both : ◌≡◌ {A = Option GicVcpuId} (some p') (some p) = sym (mapped_processor c h p' q) ∙ (processor_of c h p).0 o in
+        let both : ◌≡◌ {A = Option GicVcpuId} (Some p') (Some p) = sym (mapped_processor c h p' q) ∙ (processor_of c h p).0 o in
         record { entry = keeps.agrees.pairs d e ∙ now; target = keeps.agrees.collections c ∙ q ∙ both }
 
   kept_listed : Listed u h
   kept_listed =
       record {
         mappings = λ d e l c p. (λ m. in_history d e l c p (listed_held u d e l c p m), λ f. held_listed u d e l c p (in_unit d e l c p f));
-        no_others = only_in_force u;
+        no_others = λ m l. in_history m.device m.event m.lpi m.collection m.target (listed_held u m.device m.event m.lpi m.collection m.target l);
         once = pair_once u;
         devices = λ d bits. (
           (λ m. (device_mapped_lem d h bits).1 (sym (keeps.agrees.devices d) ∙ listed_bits u d bits m)),

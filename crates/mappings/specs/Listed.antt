@@ -32,7 +32,8 @@ pub record Listed (u : ItsState) (h : List Command) : Type 0 where
   pub mappings : (d : ItsDeviceId) (e : EventId) (l : LpiId) (c : CollectionId) (p : GicVcpuId) →
       (a_mapping d e l c p among mappings_of u) ↔ (InForce (profile_of u.config) h d e l c × ProcessorOf h c p)
   -- nothing else is listed
-  pub no_others : (m : Mapping) → m among mappings_of u → m.in_force ≡ true
+  pub no_others : (m : Mapping) → m among mappings_of u →
+      InForce (profile_of u.config) h m.device m.event m.lpi m.collection × ProcessorOf h m.collection m.target
   -- no pair is listed twice
   pub once : (d : ItsDeviceId) (e : EventId) → how_many (λ m. same_pair m.device m.event d e) (mappings_of u) ≤ 1
   -- a device is listed with its event bits exactly if the commands mapped it with these

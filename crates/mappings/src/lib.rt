@@ -2,83 +2,55 @@
 // mappings of a unit in the order of its tables; proofs/ shows that the list is that of the history.
 #![tactic(auto)]
 
-ghost use Rattle.std.specs.Prelude.{◌≡◌};
-ghost use Rattle.mappings.specs.Mappings.{counts, no_mapping, mapping_at, mapped_at};
+ghost use Rattle.std.specs.Prelude.{◌≡◌, eqb, false};
+ghost use Rattle.model.specs.Choose.{if_found};
+ghost use Rattle.mappings.specs.Mappings.{mapping_at, mapped_at};
 
-use model::{CollectionId, EventId, GicVcpuId, ItsDevice, ItsDeviceId, ItsState, LpiId};
+use model::{CollectionId, EventId, GicVcpuId, ItsDevice, ItsDeviceId, ItsState, LpiId, Pair};
 
-// A pair in force, with its LPI, its collection and the processor of that. Where `in_force` is false the numbers are 0.
-#[derive(Clone, Copy)]
+// A pair in force, with its LPI, its collection and the processor of that.
+#[derive(Clone, Copy, Debug, PartialEq, Eq)]
 pub struct Mapping {
     pub device: ItsDeviceId,
     pub event: EventId,
     pub lpi: LpiId,
     pub collection: CollectionId,
     pub target: GicVcpuId,
-    pub in_force: bool,
-}
-
-fn no_mapping() -> Mapping
-    ensures { result ≡ no_mapping }
-{
-    Mapping {
-        device: ItsDeviceId(0),
-        event: EventId(0),
-        lpi: LpiId(0),
-        collection: CollectionId(0),
-        target: GicVcpuId(0),
-        in_force: false,
-    }
 }
 
 // Whether a search that was made for the key of record `i` of a table ended there.
-fn is_at(size: usize, first: usize, i: usize) -> bool
-    ensures { result ≡ counts size first i }
+fn is_at(first: Option<usize>, i: usize) -> bool
+    ensures { result ≡ if_found first (λ n. eqb n i) false }
 {
-    (first < size) & (first == i)
+    first == Some(i)
 }
 
 // What record `i` of the translations stands for.
-pub fn mapping_at(unit: ItsState, i: usize) -> Mapping
+pub fn mapping_at(unit: ItsState, i: usize) -> Option<Mapping>
     ensures { result ≡ mapping_at unit i }
 {
-    let translations = unit.translations;
-    let entry = tables::translation_at(translations, i);
-    let first = tables::find_pair(translations, entry.device, entry.event);
-    if !is_at(256, first, i) {
-        return no_mapping();
+    let entry = tables::at(&unit.translations, i);
+    let pair = Pair {
+        device: entry.device,
+        event: entry.event,
+    };
+    if !is_at(tables::find(&unit.translations, pair), i) {
+        return None;
     }
-    let collections = unit.collections;
-    let home = tables::find_collection(collections, entry.collection);
-    if 32 <= home {
-        return no_mapping();
-    }
-    let collection = tables::collection_at(collections, home);
-    let device = entry.device;
-    let event = entry.event;
-    let lpi = entry.lpi;
-    let into = entry.collection;
-    let target = collection.target;
-    Mapping {
-        device: device,
-        event: event,
-        lpi: lpi,
-        collection: into,
-        target: target,
-        in_force: true,
-    }
+    let home = tables::look(&unit.collections, entry.collection)?;
+    Some(Mapping {
+        device: entry.device,
+        event: entry.event,
+        lpi: entry.lpi,
+        collection: entry.collection,
+        target: home.target,
+    })
 }
 
-// The device that record `i` of the devices stands for, with its event bits; a free record where it stands for none.
-pub fn device_at(unit: ItsState, i: usize) -> ItsDevice
+// The device that record `i` of the devices stands for, with its event bits.
+pub fn device_at(unit: ItsState, i: usize) -> Option<ItsDevice>
     ensures { result ≡ mapped_at unit i }
 {
-    let devices = unit.devices;
-    let entry = tables::device_at(devices, i);
-    let first = tables::find_device(devices, entry.device);
-    if is_at(32, first, i) {
-        entry
-    } else {
-        tables::no_device()
-    }
+    let entry = tables::at(&unit.devices, i);
+    is_at(tables::find(&unit.devices, entry.device), i).then_some(entry)
 }

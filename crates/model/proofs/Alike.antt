@@ -1,11 +1,11 @@
 -- Where the profiles agree (specs/Common.antt) the strict unit answers what the base unit does, and leaves the same but for the profile.
 -- Assumes nothing.
+use Rattle.std.specs.Prelude.{Err, None, Ok, Some}
 use Prim.Native.Nat.{ℕ, zero, suc, ◌-◌, ◌≤◌, ◌<◌}
 use native.Mathlib.Omega.{arith}
 use mathlib.Core.Path.{◌≡◌, refl, sym, ap, ap₂, ◌∙◌}
 use mathlib.Core.Bool.{true, false}
 use mathlib.Core.List.{List}
-use mathlib.Core.Option.{none, some}
 use lib.ListN.{length}
 use lib.Dec.{leb, eqb}
 use borrow.Author.Tests.{le-leb, eqb-true, eqb-false, leb-true}
@@ -20,8 +20,7 @@ use Rattle.model.specs.declared.Register.TheVariants.{Ctlr, Iidr, Typer, Cbaser,
 use Rattle.model.specs.declared.RegisterWrite.{RegisterWrite}
 use Rattle.model.specs.declared.Command.{Command}
 use Rattle.model.specs.declared.Refusal.TheVariants.{Unsound}
-use Rattle.model.specs.declared.Verdict.{Verdict}
-use Rattle.model.specs.declared.Verdict.TheVariants.{Accepted, Refused}
+use Rattle.model.specs.Answer.{Verdict}
 use Rattle.model.specs.Arm.{◌of◌, ◌in_place◌, CBASER_Valid, CWRITER_Retry, GITS_CWRITER}
 use Rattle.model.specs.With.{with_registers, with_profile}
 use Rattle.model.specs.Config.{sizes_in01, sound_config, sound_ring}
@@ -30,11 +29,11 @@ use Rattle.model.specs.Queue.{Window, waiting, Turn, passes, stays, turn, carry_
 use Rattle.model.specs.Passed.{command_here}
 use Rattle.model.specs.Register.{register_at, creadr_value, written_by, value_written}
 use Rattle.model.specs.Access.{check_access, check_read, check_write, if_accepted}
-use Rattle.model.specs.Writing.{refusing, to_cbaser, retries, offered, to_cwriter, write_register, register_write}
+use Rattle.model.specs.Writing.{refusing, to_cbaser, retries, offered, to_cwriter, write_register, register_write, then_runs}
 use Rattle.model.specs.Entry.{after_run, read_from, read, translate, running, concluded, stores, configure, write}
 use Rattle.model.specs.In01.{value_in01, read_in01, write_register_in01, stores_in01}
 use Rattle.model.specs.Common.{in_profile, Common, CommonRun, CommonWrite}
-use Rattle.model.proofs.Cases.{cases, never, and_right}
+use Rattle.model.proofs.Cases.{cases, never, and_right, there_or}
 use Rattle.model.proofs.Answers.{queue-runs, queue-over, queue-off}
 use Rattle.model.proofs.AnyProfile.{same_actions, same_turn, same_carried, ran_in, outcome_in, any_sizes, any_reads, any_stores}
 use Rattle.model.proofs.Stalled.{base_stored}
@@ -47,17 +46,17 @@ same_common m u x c = record { small = c.small; not_again = c.not_again }
 
 module _ (m : ℕ) (w : Window) where
   -- one step: both units meet the same command, of which 01 says all
-  common_step : (n : ℕ) (u : ItsState) → ((x : Command) → command_here w u.registers ≡ some x → Common u x) →
+  common_step : (n : ℕ) (u : ItsState) → ((x : Command) → command_here w u.registers ≡ Some x → Common u x) →
       ((x : Command) → turn w u ≡ passes x → run w n (in_profile m (carry_out u x)) ≡ ran_in (in_profile m) (run w n (carry_out u x))) →
       (t : Turn) → turn w u ≡ t → go_on (in_profile m u) (turn w (in_profile m u)) (run w n) ≡ ran_in (in_profile m) (go_on u (turn w u) (run w n))
   common_step n u c rest t e =
-      let here : (y : Command) → command_here w u.registers ≡ some y → Plain u y = λ y q. plain_common u y (c y q) in
-      let there : (y : Command) → command_here w u.registers ≡ some y → Plain (in_profile m u) y = λ y q. plain_common (in_profile m u) y (same_common m u y (c y q)) in
+      let here : (y : Command) → command_here w u.registers ≡ Some y → Plain u y = λ y q. plain_common u y (c y q) in
+      let there : (y : Command) → command_here w u.registers ≡ Some y → Plain (in_profile m u) y = λ y q. plain_common (in_profile m u) y (same_common m u y (c y q)) in
       let turned : turn w (in_profile m u) ≡ t = turn_in_01 w (in_profile m u) there ∙ (same_turn (λ _. m) (λ s. s) u w ∙ (sym (turn_in_01 w u here) ∙ e)) in
       rw (turned, e) (by_turn t e turned here there)
     where
-      by_turn : (t : Turn) → turn w u ≡ t → turn w (in_profile m u) ≡ t → ((y : Command) → command_here w u.registers ≡ some y → Plain u y) →
-          ((y : Command) → command_here w u.registers ≡ some y → Plain (in_profile m u) y) → go_on (in_profile m u) t (run w n) ≡ ran_in (in_profile m) (go_on u t (run w n))
+      by_turn : (t : Turn) → turn w u ≡ t → turn w (in_profile m u) ≡ t → ((y : Command) → command_here w u.registers ≡ Some y → Plain u y) →
+          ((y : Command) → command_here w u.registers ≡ Some y → Plain (in_profile m u) y) → go_on (in_profile m u) t (run w n) ≡ ran_in (in_profile m) (go_on u t (run w n))
       by_turn (passes x) e turned here there =
           let carried : carry_out (in_profile m u) x ≡ in_profile m (carry_out u x) =
           carried_in_01 w (in_profile m u) there x turned ∙ (same_carried (λ _. m) (λ s. s) u x ∙ ap (in_profile m) (sym (carried_in_01 w u here x e))) in
@@ -68,7 +67,7 @@ module _ (m : ℕ) (w : Window) where
   later : (n : ℕ) (u : ItsState) → CommonRun w (suc n) u → (x : Command) → turn w u ≡ passes x → CommonRun w n (carry_out u x)
   later n u c x e i h y q =
       let same : (run w (suc i) u).unit ≡ (run w i (carry_out u x)).unit = ap (λ t. (go_on u t (run w i)).unit) e in
-      let q' : command_here w (run w (suc i) u).unit.registers ≡ some y = ap (λ v. command_here w v.registers) same ∙ q in
+      let q' : command_here w (run w (suc i) u).unit.registers ≡ Some y = ap (λ v. command_here w v.registers) same ∙ q in
       rw same at (c (suc i) (omega arith) y q')
 
   common_run : (n : ℕ) (u : ItsState) → CommonRun w n u → run w n (in_profile m u) ≡ ran_in (in_profile m) (run w n u)
@@ -117,7 +116,7 @@ module _ (u : ItsState) (b : u.config.profile ≡ 0) (clear : u.registers.stalle
   plain_register value Reserved n = refl
 
   module _ (row : List ItsAction) (offset width value : ℕ) (no_retry : offset ≡ GITS_CWRITER → CWRITER_Retry of value ≡ 0) where
-    no_bit : check_access v.config offset width ≡ Accepted → sound_ring v.registers ≡ true → register_at offset ≡ Cwriter →
+    no_bit : check_access v.config offset width ≡ Ok tt → sound_ring v.registers ≡ true → register_at offset ≡ Cwriter →
         CWRITER_Retry of written_by (value_in01 v) offset width value (register_at offset) ≡ 0
     no_bit taken ring at =
         rw at
@@ -127,8 +126,8 @@ module _ (u : ItsState) (b : u.config.profile ≡ 0) (clear : u.registers.stalle
     by_verdict : (d : Verdict) → check_write v.config v.registers (length row) offset width ≡ d →
         if_accepted d (write_register v.config v.registers (value_written v.config v.registers offset width value (register_at offset)) (register_at offset)) (refusing v.registers 0)
         ≡ if_accepted d (write_register_in01 v.registers (written_by (value_in01 v) offset width value (register_at offset)) (register_at offset)) (refusing v.registers 0)
-    by_verdict (Refused why) c = refl
-    by_verdict Accepted c =
+    by_verdict (Err why) c = refl
+    by_verdict (Ok _) c =
         let taken = checks_taken v.config v.registers (length row) offset width c in
         let ring = and_right (sound_config v.config) _ taken.is_sound in
         rw plain_creadr
@@ -151,13 +150,13 @@ module _ (u : ItsState) (b : u.config.profile ≡ 0) (clear : u.registers.stalle
     unfolding may_run held
     base_runs on = rw (on, b)
 
-    none_waits : (x : ItsState) → x.registers ≡ r → waiting r ≡ 0 → run_queue w x ≡ ended x none
+    none_waits : (x : ItsState) → x.registers ≡ r → waiting r ≡ 0 → run_queue w x ≡ ended x None
     unfolding run_queue
     none_waits x e z = rw (e, z, le-leb 0 x.config.command_budget (omega arith)) (cases (may_run x.config r) (λ y. rw y) (λ n. rw n))
 
     same_queue : (r.enabled ≡ true → 0 < waiting r → CBASER_Valid of r.cbaser ≡ 1) →
         (r.enabled ≡ true → waiting r ≤ u.config.command_budget → CommonRun w (waiting r) u₁) →
-        (r.enabled ≡ true → waiting r ≤ u.config.command_budget → (run w (waiting r) u₁).stopped ≡ none) → r.stalled ≡ false →
+        (r.enabled ≡ true → waiting r ≤ u.config.command_budget → (run w (waiting r) u₁).stopped ≡ None) → r.stalled ≡ false →
         run_queue w (in_profile 1 u₁) ≡ ran_in (in_profile 1) (run_queue w u₁)
     same_queue bit63 c goes clear =
         cases r.enabled
@@ -185,12 +184,12 @@ module _ (u : ItsState) (b : u.config.profile ≡ 0) (clear : u.registers.stalle
     stays_clear : s.registers.stalled ≡ false
     stays_clear = base_stored u offset width value row (rw b) ∙ clear
 
-    same_run : s.runs ≡ true → run_queue w (with_registers v s.registers) ≡ ran_in (in_profile 1) (run_queue w (with_registers u s.registers))
+    same_run : then_runs s ≡ true → run_queue w (with_registers v s.registers) ≡ ran_in (in_profile 1) (run_queue w (with_registers u s.registers))
     same_run on = same_queue w s.registers (c.queue.bit63 on) (c.queue.commands on) (c.queue.none_refused on) stays_clear
 
     same_end : concluded w row v s ≡ outcome_in (in_profile 1) (concluded w row u s)
     unfolding running
-    same_end = cases s.runs (λ on. rw on (ap (λ q. after_run q row) (same_run on))) (λ off. rw off)
+    same_end = there_or s.answer (λ a off. rw off refl) (λ on. rw on (ap (λ q. after_run q row) (same_run (rw on))))
 
     pub same_writes : write w row v offset width value ≡ outcome_in (in_profile 1) (write w row u offset width value)
     unfolding write
@@ -199,7 +198,7 @@ module _ (u : ItsState) (b : u.config.profile ≡ 0) (clear : u.registers.stalle
     -- and the same actions
     pub same_made : made_by (run_queue w) v (stores row v offset width value) ≡ made_by (run_queue w) u s
     same_made =
-        rw (same_stores row offset width value c.no_retry) (cases s.runs (λ on. rw on (ap (λ q. q.actions) (same_run on))) (λ off. rw off))
+        rw (same_stores row offset width value c.no_retry) (cases (then_runs s) (λ on. rw on (ap (λ q. q.actions) (same_run on))) (λ off. rw off))
 
 -- a configuration of both is accepted or refused, and what is accepted is the same fresh unit
 pub same_verdict : (k : ItsConfig) → (configure (with_profile k 1)).verdict ≡ (configure (with_profile k 0)).verdict
@@ -208,14 +207,14 @@ same_verdict k =
     rw (sizes_only (with_profile k 1) refl, sizes_only (with_profile k 0) refl, any_sizes k 1, any_sizes k 0)
     (cases (sizes_in01 k) (λ y. rw y) (λ n. rw n))
 
-pub same_fresh : (k : ItsConfig) → (configure (with_profile k 0)).verdict ≡ Accepted → (configure (with_profile k 1)).unit ≡ in_profile 1 (configure (with_profile k 0)).unit
+pub same_fresh : (k : ItsConfig) → (configure (with_profile k 0)).verdict ≡ Ok tt → (configure (with_profile k 1)).unit ≡ in_profile 1 (configure (with_profile k 0)).unit
 unfolding configure
 same_fresh k a =
     cases (sizes_in01 k)
     (λ y. rw (sizes_only (with_profile k 1) refl, sizes_only (with_profile k 0) refl, any_sizes k 1, any_sizes k 0, y))
-    (λ n. let z : ◌≡◌ {A = Verdict} (Refused Unsound) Accepted = rw (sizes_only (with_profile k 0) refl, any_sizes k 0, n) at a in never true refl (cc))
+    (λ n. let z : ◌≡◌ {A = Verdict} (Err Unsound) (Ok tt) = rw (sizes_only (with_profile k 0) refl, any_sizes k 0, n) at a in never true refl (cc))
 
-pub fresh_base : (k : ItsConfig) → (configure (with_profile k 0)).verdict ≡ Accepted → (configure (with_profile k 0)).unit.config.profile ≡ 0
+pub fresh_base : (k : ItsConfig) → (configure (with_profile k 0)).verdict ≡ Ok tt → (configure (with_profile k 0)).unit.config.profile ≡ 0
 unfolding configure
 fresh_base k a =
     cases (sizes_in01 k)

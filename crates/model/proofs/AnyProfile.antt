@@ -1,11 +1,10 @@
 -- 01'S UNIT (specs/In01.antt) KNOWS NO PROFILE AND NO STALLED: whatever stands there, it answers the same and leaves the same.
 -- Assumes nothing.
-use Rattle.std.specs.Prelude.{if◌then◌else◌}
+use Rattle.std.specs.Prelude.{if◌then◌else◌, Err, None, Ok, Option, Some}
 use Prim.Native.Nat.{ℕ, zero, suc}
 use mathlib.Core.Path.{◌≡◌, refl, ap, ap₂, ◌∙◌}
 use mathlib.Core.Bool.{Bool, true, false, not}
 use mathlib.Core.List.{List}
-use mathlib.Core.Option.{Option, none, some}
 use lib.ListN.{length}
 use lib.Dec.{leb, eqb}
 use Rattle.model.specs.declared.ItsDeviceId.{ItsDeviceId}
@@ -21,11 +20,8 @@ use Rattle.model.specs.declared.Register.TheVariants.{Ctlr, Iidr, Typer, Cbaser,
 use Rattle.model.specs.declared.RegisterWrite.{RegisterWrite}
 use Rattle.model.specs.declared.Command.{Command}
 use Rattle.model.specs.declared.Command.TheVariants.{Mapd, Mapc, Mapti, Mapi, Movi, Int, Clear, Discard, Inv, Invall, Sync}
-use Rattle.model.specs.declared.Decoded.{Decoded}
-use Rattle.model.specs.declared.Decoded.TheVariants.{Known, Unknown}
 use Rattle.model.specs.declared.Refusal.TheVariants.{Unsound, RowTooShort, NotInWindow}
-use Rattle.model.specs.declared.Verdict.{Verdict}
-use Rattle.model.specs.declared.Verdict.TheVariants.{Accepted, Refused}
+use Rattle.model.specs.Answer.{Decoded, Verdict}
 use Rattle.model.specs.Choose.{◌or◌then◌, if_found}
 use Rattle.model.specs.With.{with_registers, with_stalled, with_profile}
 use Rattle.model.specs.Config.{queue_base, listed, sizes_in01, sound_ring}
@@ -34,11 +30,11 @@ use Rattle.model.specs.Step.{translation_of, delivery_in, lpi_in_range, check_ma
 use Rattle.model.specs.Queue.{Window, command_at, waiting, command_address, Turn, passes, stays, judged, Ran, and_then}
 use Rattle.model.specs.Register.{register_at, is_wide, read_part, read_by, merged, written_by}
 use Rattle.model.specs.Access.{check_access, if_accepted}
-use Rattle.model.specs.Writing.{refusing, to_ctlr, writer_taken, writer_accepted, to_baser, stored_stalled}
+use Rattle.model.specs.Writing.{refusing, to_ctlr, writer_taken, writer_accepted, to_baser, stored_stalled, then_runs}
 use Rattle.model.specs.Entry.{Outcome, after_run}
 use Rattle.model.specs.In01.{sound_in01, configure_in01, value_in01, read_in01, translate_in01, turn_on_in01, turn_in01, carry_out_in01, go_on_in01, run_in01, run_queue_in01, write_register_in01, stores_in01, concluded_in01, write_in01}
 use Rattle.model.specs.Common.{in_profile}
-use Rattle.model.proofs.Cases.{cases}
+use Rattle.model.proofs.Cases.{cases, there_or}
 use Rattle.model.proofs.Profiles.{made_by}
 
 -- 01's sizes speak of no profile
@@ -75,8 +71,8 @@ module _ (m : ℕ → ℕ) (b : Bool → Bool) (u : ItsState) where
   same_moved : (d : ItsDeviceId) (e : EventId) (c : CollectionId) (o : Option Translation) →
       if_found o (λ r. store_translation d e r.lpi c (unseen m b u)) (unseen m b u) ≡ unseen m b (if_found o (λ r. store_translation d e r.lpi c u) u)
   unfolding store_translation
-  same_moved d e c none = refl
-  same_moved d e c (some r) = refl
+  same_moved d e c None = refl
+  same_moved d e c (Some r) = refl
 
   same_effect : (x : Command) → effect_in01 (unseen m b u) x ≡ unseen m b (effect_in01 u x)
   unfolding store_device store_collection store_translation drop_device drop_collection drop_pair move_pair
@@ -113,13 +109,13 @@ module _ (m : ℕ → ℕ) (b : Bool → Bool) (u : ItsState) where
   same_turn w = by_words (command_at w (command_address u.registers u.registers.creadr))
     where
       by_decoded : (k : Decoded) (opcode : ℕ) → turn_on_in01 (unseen m b u) opcode k ≡ turn_on_in01 u opcode k
-      by_decoded (Known x) opcode = ap (λ v. judged v x opcode) (same_check x)
-      by_decoded (Unknown n) opcode = refl
+      by_decoded (Ok x) opcode = ap (λ v. judged v x opcode) (same_check x)
+      by_decoded (Err n) opcode = refl
 
       by_words : (o : Option (List ℕ)) →
           if_found o (λ ws. turn_on_in01 (unseen m b u) (opcode_of ws) (decode ws)) (stays NotInWindow 0) ≡ if_found o (λ ws. turn_on_in01 u (opcode_of ws) (decode ws)) (stays NotInWindow 0)
-      by_words none = refl
-      by_words (some ws) = by_decoded (decode ws) (opcode_of ws)
+      by_words None = refl
+      by_words (Some ws) = by_decoded (decode ws) (opcode_of ws)
 
   pub same_carried : (x : Command) → carry_out_in01 (unseen m b u) x ≡ unseen m b (carry_out_in01 u x)
   unfolding carry_out_in01
@@ -177,16 +173,16 @@ module _ (m : ℕ → ℕ) (b : Bool → Bool) (u : ItsState) where
   any_stores row offset width value =
       rw (any_sizes u.config (m u.config.profile), any_written offset width value (register_at offset))
       (by_verdict
-      (sound_in01 u.config u.registers or Refused Unsound then
-      leb u.config.command_budget (length row) or Refused RowTooShort then
+      (sound_in01 u.config u.registers or Err Unsound then
+      leb u.config.command_budget (length row) or Err RowTooShort then
       check_access u.config offset width)
       (written_by (value_in01 u) offset width value (register_at offset)) (register_at offset))
     where
       by_verdict : (d : Verdict) (written : ℕ) (n : Register) →
           if_accepted d (write_register_in01 (marked_by b u.registers) written n) (refusing (marked_by b u.registers) 0)
           ≡ stored_by b (if_accepted d (write_register_in01 u.registers written n) (refusing u.registers 0))
-      by_verdict Accepted written n = any_register written n
-      by_verdict (Refused why) written n = refl
+      by_verdict (Ok _) written n = any_register written n
+      by_verdict (Err why) written n = refl
 
 by_tests : {A B : Type 0} (f : A → B) (a b : Bool) {x y z : A} {x' y' z' : B} → x' ≡ f x → y' ≡ f y → z' ≡ f z →
     (if a then (b or x' then y') else z') ≡ f (if a then (b or x then y) else z)
@@ -211,7 +207,7 @@ module _ (m : ℕ → ℕ) (b : Bool → Bool) (w : Window) where
 
   any_end : (row : List ItsAction) (u : ItsState) (s : RegisterWrite) → concluded_in01 w row (unseen m b u) (stored_by b s) ≡ outcome_in (unseen m b) (concluded_in01 w row u s)
   any_end row u s =
-      cases s.runs (λ on. rw on (ap (λ q. after_run q row) (any_queue (with_registers u s.registers)))) (λ off. rw off)
+      there_or s.answer (λ a off. rw off refl) (λ on. rw on (ap (λ q. after_run q row) (any_queue (with_registers u s.registers))))
 
   pub any_writes : (row : List ItsAction) (u : ItsState) (offset width value : ℕ) →
       write_in01 w row (unseen m b u) offset width value ≡ outcome_in (unseen m b) (write_in01 w row u offset width value)
@@ -223,7 +219,7 @@ module _ (m : ℕ → ℕ) (b : Bool → Bool) (w : Window) where
   any_made row u offset width value =
       let s = stores_in01 row u offset width value in
       rw (any_stores m b u row offset width value)
-      (cases s.runs (λ on. rw on (ap (λ q. q.actions) (any_queue (with_registers u s.registers)))) (λ off. rw off))
+      (cases (then_runs s) (λ on. rw on (ap (λ q. q.actions) (any_queue (with_registers u s.registers)))) (λ off. rw off))
 
 pub any_verdict : (m : ℕ) (k : ItsConfig) → (configure_in01 (with_profile k m)).verdict ≡ (configure_in01 k).verdict
 unfolding configure_in01

@@ -1,12 +1,11 @@
 -- Each pair in force is backed: its LPI is in range, its device and its collection are mapped, and every mapped collection's processor is listed. In
 -- strict its event lies below its device's capacity too, and no device above 65535 is mapped. Each accepted command keeps that.
 -- Assumes nothing.
-use Rattle.std.specs.Prelude.{if◌then◌else◌}
+use Rattle.std.specs.Prelude.{if◌then◌else◌, Err, None, Option, Some}
 use Prim.Native.Nat.{ℕ}
 use mathlib.Core.Path.{◌≡◌, refl, sym, subst, ◌∙◌}
 use mathlib.Core.Bool.{Bool, true, false, ◌&&◌, not}
 use mathlib.Core.List.{List, [], ◌∷◌}
-use mathlib.Core.Option.{Option, none, some}
 use lib.Dec.{ltb}
 use Rattle.model.specs.declared.ItsDeviceId.{ItsDeviceId}
 use Rattle.model.specs.declared.EventId.{EventId}
@@ -19,7 +18,6 @@ use Rattle.model.specs.declared.ItsState.{ItsState}
 use Rattle.model.specs.declared.Command.{Command}
 use Rattle.model.specs.declared.Command.TheVariants.{Mapd, Mapc, Mapti, Mapi, Movi, Int, Clear, Discard, Inv, Invall, Sync}
 use Rattle.model.specs.declared.Refusal.TheVariants.{CollectionUnmapped, ProcessorUnlisted, DeviceTooLarge}
-use Rattle.model.specs.declared.Verdict.TheVariants.{Refused}
 use Rattle.model.specs.Choose.{when_found, if_found, is_found}
 use Rattle.model.specs.Keys.{same_device, same_collection, same_pair, event_as_lpi}
 use Rattle.model.specs.Profile.{Profile, base, strict, is_strict, profile_of, mapd_ends}
@@ -34,21 +32,21 @@ use Rattle.model.proofs.Agreement.{Agrees}
 -- Where a pair that is there after a command comes from.
 abbrev pub Came : Part → Option PairEntry → PairEntry → Type 0
 Came (maps l c) o x = x ≡ an_entry l c
-Came (moves c) o x = (y : PairEntry) × (o ≡ some y) × (x ≡ an_entry y.lpi c)
+Came (moves c) o x = (y : PairEntry) × (o ≡ Some y) × (x ≡ an_entry y.lpi c)
 Came ends o x = ⊥
-Came (ends_in c) o x = (o ≡ some x) × (same_collection x.collection c ≡ false)
-Came leaves o x = o ≡ some x
+Came (ends_in c) o x = (o ≡ Some x) × (same_collection x.collection c ≡ false)
+Came leaves o x = o ≡ Some x
 
-pub came : (p : Part) (o : Option PairEntry) (x : PairEntry) → pair_after p o ≡ some x → Came p o x
+pub came : (p : Part) (o : Option PairEntry) (x : PairEntry) → pair_after p o ≡ Some x → Came p o x
 came (maps l c) o x h = cc
-came (moves c) none x h = never true refl (cc)
-came (moves c) (some y) x h = (y, refl, (cc))
+came (moves c) None x h = never true refl (cc)
+came (moves c) (Some y) x h = (y, refl, (cc))
 came ends o x h = never true refl (cc)
-came (ends_in c) none x h = never true refl (cc)
-came (ends_in c) (some y) x h =
+came (ends_in c) None x h = never true refl (cc)
+came (ends_in c) (Some y) x h =
     cases (same_collection y.collection c)
-    (λ s. let n : ◌≡◌ {A = Option PairEntry} none (some x) = rw s at h in never true refl (cc))
-    (λ s. let n : ◌≡◌ {A = Option PairEntry} (some y) (some x) = rw s at h in
+    (λ s. let n : ◌≡◌ {A = Option PairEntry} None (Some x) = rw s at h in never true refl (cc))
+    (λ s. let n : ◌≡◌ {A = Option PairEntry} (Some y) (Some x) = rw s at h in
     let yx : y ≡ x = cc in
     (n, rw yx at s))
 came leaves o x h = h
@@ -60,11 +58,11 @@ pub record Behind (k : ItsConfig) (bits : Option ℕ) (p : Option GicVcpuId) (x 
   pub collection : is_found p ≡ true
 
 pub record Sound (k : ItsConfig) (h : List Command) : Type 0 where
-  pub behind : (d : ItsDeviceId) (e : EventId) (x : PairEntry) → pair_now (profile_of k) d e h ≡ some x → Behind k (device_now d h) (collection_now x.collection h) x
-  pub processors : (c : CollectionId) (p : GicVcpuId) → collection_now c h ≡ some p → listed k p ≡ true
-  pub below : is_strict k.profile ≡ true → (d : ItsDeviceId) (e : EventId) (x : PairEntry) → pair_now (profile_of k) d e h ≡ some x →
-      (bits : ℕ) → device_now d h ≡ some bits → event_below bits e ≡ true
-  pub announced : is_strict k.profile ≡ true → (d : ItsDeviceId) (bits : ℕ) → device_now d h ≡ some bits → ltb 65535 d.0 ≡ false
+  pub behind : (d : ItsDeviceId) (e : EventId) (x : PairEntry) → pair_now (profile_of k) d e h ≡ Some x → Behind k (device_now d h) (collection_now x.collection h) x
+  pub processors : (c : CollectionId) (p : GicVcpuId) → collection_now c h ≡ Some p → listed k p ≡ true
+  pub below : is_strict k.profile ≡ true → (d : ItsDeviceId) (e : EventId) (x : PairEntry) → pair_now (profile_of k) d e h ≡ Some x →
+      (bits : ℕ) → device_now d h ≡ Some bits → event_below bits e ≡ true
+  pub announced : is_strict k.profile ≡ true → (d : ItsDeviceId) (bits : ℕ) → device_now d h ≡ Some bits → ltb 65535 d.0 ≡ false
 
 pub sound_fresh : (k : ItsConfig) → Sound k []
 sound_fresh k =
@@ -94,7 +92,7 @@ module _ (u : ItsState) (h : List Command) (agrees : Agrees h u) (sound : Sound 
 
   -- after a MAPTI or MAPI
   mapped : (d' : ItsDeviceId) (e' : EventId) (l : LpiId) (c : CollectionId) → is_accepted (check_mapping u d' e' l c) ≡ true →
-      (d : ItsDeviceId) (e : EventId) (y : PairEntry) → pair_after (if same_pair d' e' d e then maps l c else leaves) (pairs d e) ≡ some y →
+      (d : ItsDeviceId) (e : EventId) (y : PairEntry) → pair_after (if same_pair d' e' d e then maps l c else leaves) (pairs d e) ≡ Some y →
       Behind u.config (device_now d h) (collection_now y.collection h) y
   mapped d' e' l c ok d e y q =
       cases (same_pair d' e' d e)
@@ -108,18 +106,18 @@ module _ (u : ItsState) (h : List Command) (agrees : Agrees h u) (sound : Sound 
       (λ s. sound.behind d e y (rw s at q))
 
   -- each pair that is held is of a mapped device
-  homed : (d : ItsDeviceId) (e : EventId) (y : PairEntry) → entry_in u d e ≡ some y → device_mapped u d ≡ true
+  homed : (d : ItsDeviceId) (e : EventId) (y : PairEntry) → entry_in u d e ≡ Some y → device_mapped u d ≡ true
   homed d e y q =
       sym (found_when (device_of u d) (λ r. r.event_bits)) ∙ rw (agrees.devices d) (sound.behind d e y (sym (agrees.pairs d e) ∙ q)).device
 
   pub clean : (x : Command) → Clean u x
   clean x d bits m n e = go (entry_in u d e) refl
     where
-      go : (o : Option PairEntry) → entry_in u d e ≡ o → o ≡ none
-      go none q = refl
-      go (some y) q = never (device_mapped u d) (homed d e y q) n
+      go : (o : Option PairEntry) → entry_in u d e ≡ o → o ≡ None
+      go None q = refl
+      go (Some y) q = never (device_mapped u d) (homed d e y q) n
 
-  pub behind_step : (x : Command) → accepts u x ≡ true → (d : ItsDeviceId) (e : EventId) (y : PairEntry) → pair_now (profile_of u.config) d e (x ∷ h) ≡ some y →
+  pub behind_step : (x : Command) → accepts u x ≡ true → (d : ItsDeviceId) (e : EventId) (y : PairEntry) → pair_now (profile_of u.config) d e (x ∷ h) ≡ Some y →
       Behind u.config (device_now d (x ∷ h)) (collection_now y.collection (x ∷ h)) y
   unfolding of_device_says of_collection_says part_in
   behind_step (Mapd d' bits true) ok d e y q =
@@ -149,7 +147,7 @@ module _ (u : ItsState) (h : List Command) (agrees : Agrees h u) (sound : Sound 
         device = b.device;
         collection =
             subst (λ z. is_found (collection_now z.collection (Movi d' e' c ∷ h)) ≡ true) (sym k)
-            (collection_now_lem c (passed (collection_mapped u c) (Refused CollectionUnmapped) _ refl (own u (Movi d' e' c) ok)).0);
+            (collection_now_lem c (passed (collection_mapped u c) (Err CollectionUnmapped) _ refl (own u (Movi d' e' c) ok)).0);
       })
       (λ s. sound.behind d e y (rw s at q))
   behind_step (Int d' e') ok d e y q = sound.behind d e y q
@@ -161,18 +159,18 @@ module _ (u : ItsState) (h : List Command) (agrees : Agrees h u) (sound : Sound 
   behind_step (Invall c) ok d e y q = sound.behind d e y q
   behind_step Sync ok d e y q = sound.behind d e y q
 
-  pub processors_step : (x : Command) → accepts u x ≡ true → (c : CollectionId) (p : GicVcpuId) → collection_now c (x ∷ h) ≡ some p → listed u.config p ≡ true
+  pub processors_step : (x : Command) → accepts u x ≡ true → (c : CollectionId) (p : GicVcpuId) → collection_now c (x ∷ h) ≡ Some p → listed u.config p ≡ true
   unfolding of_collection_says
   processors_step (Mapd d bits valid) ok c p q = sound.processors c p q
   processors_step (Mapc c' p' true) ok c p q =
       cases (same_collection c' c)
-      (λ s. let n : ◌≡◌ {A = Option GicVcpuId} (some p') (some p) = rw s at q in
+      (λ s. let n : ◌≡◌ {A = Option GicVcpuId} (Some p') (Some p) = rw s at q in
       let k : p' ≡ p = cc in
-      rw (← k) (passed (listed u.config p') (Refused ProcessorUnlisted) _ refl (own u (Mapc c' p' true) ok)).0)
+      rw (← k) (passed (listed u.config p') (Err ProcessorUnlisted) _ refl (own u (Mapc c' p' true) ok)).0)
       (λ s. sound.processors c p (rw s at q))
   processors_step (Mapc c' p' false) ok c p q =
       cases (same_collection c' c)
-      (λ s. let n : ◌≡◌ {A = Option GicVcpuId} none (some p) = rw s at q in never true refl (cc))
+      (λ s. let n : ◌≡◌ {A = Option GicVcpuId} None (Some p) = rw s at q in never true refl (cc))
       (λ s. sound.processors c p (rw s at q))
   processors_step (Mapti d e l c') ok c p q = sound.processors c p q
   processors_step (Mapi d e c') ok c p q = sound.processors c p q
@@ -187,24 +185,24 @@ module _ (u : ItsState) (h : List Command) (agrees : Agrees h u) (sound : Sound 
   -- In strict the capacity of a device changes only where its pairs end, and a MAPTI or MAPI is tested against it.
   module _ (s : is_strict u.config.profile ≡ true) where
     abbrev Below : Command → Type 0
-    Below x = (d : ItsDeviceId) (e : EventId) (y : PairEntry) → pair_now (profile_of u.config) d e (x ∷ h) ≡ some y →
-        (bits : ℕ) → device_now d (x ∷ h) ≡ some bits → event_below bits e ≡ true
+    Below x = (d : ItsDeviceId) (e : EventId) (y : PairEntry) → pair_now (profile_of u.config) d e (x ∷ h) ≡ Some y →
+        (bits : ℕ) → device_now d (x ∷ h) ≡ Some bits → event_below bits e ≡ true
 
     -- a pair that was there before
-    before : (d : ItsDeviceId) (e : EventId) (y : PairEntry) → pairs d e ≡ some y → (bits : ℕ) → device_now d h ≡ some bits → event_below bits e ≡ true
+    before : (d : ItsDeviceId) (e : EventId) (y : PairEntry) → pairs d e ≡ Some y → (bits : ℕ) → device_now d h ≡ Some bits → event_below bits e ≡ true
     before = sound.below s
 
     -- the event that a check let pass
-    let_pass : (d : ItsDeviceId) (e : EventId) → event_fits u d e ≡ true → (bits : ℕ) → device_now d h ≡ some bits → event_below bits e ≡ true
+    let_pass : (d : ItsDeviceId) (e : EventId) → event_fits u d e ≡ true → (bits : ℕ) → device_now d h ≡ Some bits → event_below bits e ≡ true
     let_pass d e fits bits m = go (device_of u d) fits (agrees.devices d ∙ m)
       where
-        go : (o : Option ItsDevice) → if_found o (λ r. event_below r.event_bits e) false ≡ true → when_found o (λ r. some r.event_bits) ≡ some bits → event_below bits e ≡ true
-        go none f q = never true refl (sym f)
-        go (some r) f q = let same : r.event_bits ≡ bits = cc in rw (← same) f
+        go : (o : Option ItsDevice) → if_found o (λ r. event_below r.event_bits e) false ≡ true → when_found o (λ r. Some r.event_bits) ≡ Some bits → event_below bits e ≡ true
+        go None f q = never true refl (sym f)
+        go (Some r) f q = let same : r.event_bits ≡ bits = cc in rw (← same) f
 
     mapped_below : (d' : ItsDeviceId) (e' : EventId) (l : LpiId) (c : CollectionId) → is_accepted (check_mapping u d' e' l c) ≡ true →
-        (d : ItsDeviceId) (e : EventId) (y : PairEntry) → pair_after (if same_pair d' e' d e then maps l c else leaves) (pairs d e) ≡ some y →
-        (bits : ℕ) → device_now d h ≡ some bits → event_below bits e ≡ true
+        (d : ItsDeviceId) (e : EventId) (y : PairEntry) → pair_after (if same_pair d' e' d e then maps l c else leaves) (pairs d e) ≡ Some y →
+        (bits : ℕ) → device_now d h ≡ Some bits → event_below bits e ≡ true
     mapped_below d' e' l c ok d e y q bits m =
         cases (same_pair d' e' d e)
         (λ z. let_pass d e (rw (pair_device d' e' d e z, pair_event d' e' d e z) at (allowed u d' e' l c ok).event) bits m)
@@ -247,17 +245,17 @@ module _ (u : ItsState) (h : List Command) (agrees : Agrees h u) (sound : Sound 
     small_mapd : (d : ItsDeviceId) (n : ℕ) (valid : Bool) → accepts u (Mapd d n valid) ≡ true → ltb 65535 d.0 ≡ false
     unfolding too_large
     small_mapd d n valid ok =
-        let small : not (too_large u.config d) ≡ true = (passed (not (too_large u.config d)) (Refused DeviceTooLarge) (check_in01 u (Mapd d n valid)) refl ok).0 in
+        let small : not (too_large u.config d) ≡ true = (passed (not (too_large u.config d)) (Err DeviceTooLarge) (check_in01 u (Mapd d n valid)) refl ok).0 in
         let not_above : not (ltb 65535 d.0) ≡ true = rw s at small in
         cases (ltb 65535 d.0) (λ y. let z : not true ≡ true = rw y at not_above in never true refl (sym z)) (λ n. n)
 
-    announced_step : (x : Command) → accepts u x ≡ true → (d : ItsDeviceId) (bits : ℕ) → device_now d (x ∷ h) ≡ some bits → ltb 65535 d.0 ≡ false
+    announced_step : (x : Command) → accepts u x ≡ true → (d : ItsDeviceId) (bits : ℕ) → device_now d (x ∷ h) ≡ Some bits → ltb 65535 d.0 ≡ false
     unfolding of_device_says
     announced_step (Mapd d' n true) ok d bits m =
         cases (same_device d' d) (λ z. rw (← (device_eq d' d z)) (small_mapd d' n true ok)) (λ z. sound.announced s d bits (rw z at m))
     announced_step (Mapd d' n false) ok d bits m =
         cases (same_device d' d)
-        (λ z. let no : ◌≡◌ {A = Option ℕ} none (some bits) = rw z at m in never true refl (cc))
+        (λ z. let no : ◌≡◌ {A = Option ℕ} None (Some bits) = rw z at m in never true refl (cc))
         (λ z. sound.announced s d bits (rw z at m))
     announced_step (Mapc c p valid) ok d bits m = sound.announced s d bits m
     announced_step (Mapti d' e l c) ok d bits m = sound.announced s d bits m

@@ -1,11 +1,10 @@
 -- What an accepted command does to what the unit says of a device, of a collection and of a pair: exactly what History.antt says that it does in the
 -- unit's profile. By the laws of a table; no history is spoken of here.
 -- Assumes nothing.
-use Rattle.std.specs.Prelude.{if◌then◌else◌}
+use Rattle.std.specs.Prelude.{if◌then◌else◌, Err, None, Ok, Option, Some}
 use Prim.Native.Nat.{ℕ}
 use mathlib.Core.Path.{◌≡◌, refl, sym, ap, ap₂, ◌∙◌}
 use mathlib.Core.Bool.{Bool, true, false, not, ◌&&◌}
-use mathlib.Core.Option.{Option, none, some}
 use borrow.Author.Tests.{eq-eqb}
 use Rattle.model.specs.declared.ItsDeviceId.{ItsDeviceId}
 use Rattle.model.specs.declared.EventId.{EventId}
@@ -17,8 +16,7 @@ use Rattle.model.specs.declared.ItsState.{ItsState}
 use Rattle.model.specs.declared.Command.{Command}
 use Rattle.model.specs.declared.Command.TheVariants.{Mapd, Mapc, Mapti, Mapi, Movi, Int, Clear, Discard, Inv, Invall, Sync}
 use Rattle.model.specs.declared.Refusal.TheVariants.{LpiOutOfRange, DeviceUnmapped, EventBeyondBits, CollectionUnmapped, PairUnmapped, ProcessorUnlisted, DeviceTooLarge, TableFull}
-use Rattle.model.specs.declared.Verdict.{Verdict}
-use Rattle.model.specs.declared.Verdict.TheVariants.{Accepted, Refused}
+use Rattle.model.specs.Answer.{Verdict}
 use Rattle.model.specs.Choose.{◌or◌then◌, when_found, if_found}
 use Rattle.model.specs.Keys.{same_device, same_collection, same_pair, is_device, is_collection, is_pair, of_device, a_device, a_collection, a_translation, no_device, no_collection, no_translation, event_as_lpi}
 use Rattle.model.specs.Profile.{is_strict, profile_of}
@@ -77,16 +75,16 @@ use Rattle.model.proofs.KeyLaws.{
 -- What the unit says.
 
 abbrev pub bits_in : ItsState → ItsDeviceId → Option ℕ
-bits_in u d = when_found (device_of u d) (λ r. some r.event_bits)
+bits_in u d = when_found (device_of u d) (λ r. Some r.event_bits)
 
 abbrev pub target_in : ItsState → CollectionId → Option GicVcpuId
-target_in u c = when_found (collection_of u c) (λ r. some r.target)
+target_in u c = when_found (collection_of u c) (λ r. Some r.target)
 
 abbrev pub entry_of : Translation → PairEntry
 entry_of r = an_entry r.lpi r.collection
 
 abbrev pub entry_in : ItsState → ItsDeviceId → EventId → Option PairEntry
-entry_in u d e = when_found (translation_of u d e) (λ r. some (entry_of r))
+entry_in u d e = when_found (translation_of u d e) (λ r. Some (entry_of r))
 
 -- a check that was passed held, and so did those after it
 pub passed : (b : Bool) (r k : Verdict) → is_accepted r ≡ false → is_accepted (b or r then k) ≡ true → (b ≡ true) × (is_accepted k ≡ true)
@@ -95,7 +93,7 @@ passed false r k n h = never (is_accepted r) h n
 
 -- of a command that is accepted, the device that it names is not too large, and 01's checks hold
 pub own : (u : ItsState) (x : Command) → accepts u x ≡ true → is_accepted (check_in01 u x) ≡ true
-own u x ok = (passed (not (names_too_large u.config x)) (Refused DeviceTooLarge) (check_in01 u x) refl ok).1
+own u x ok = (passed (not (names_too_large u.config x)) (Err DeviceTooLarge) (check_in01 u x) refl ok).1
 
 -- Before a valid MAPD stores, the pairs of its device may be dropped; nothing else changes.
 module _ (u : ItsState) (d : ItsDeviceId) where
@@ -130,18 +128,18 @@ module _ (u : ItsState) where
   pub allowed : (d : ItsDeviceId) (e : EventId) (l : LpiId) (c : CollectionId) → is_accepted (check_mapping u d e l c) ≡ true → Allowed d e l c
   unfolding check_mapping
   allowed d e l c ok =
-      let a = passed (lpi_in_range u.config l) (Refused LpiOutOfRange) _ refl ok in
-      let b = passed (device_mapped u d) (Refused DeviceUnmapped) _ refl a.1 in
-      let f = passed (event_fits u d e) (Refused EventBeyondBits) _ refl b.1 in
-      let g = passed (collection_mapped u c) (Refused CollectionUnmapped) _ refl f.1 in
-      let k = passed (room_for_pair u d e) (Refused TableFull) Accepted refl g.1 in
+      let a = passed (lpi_in_range u.config l) (Err LpiOutOfRange) _ refl ok in
+      let b = passed (device_mapped u d) (Err DeviceUnmapped) _ refl a.1 in
+      let f = passed (event_fits u d e) (Err EventBeyondBits) _ refl b.1 in
+      let g = passed (collection_mapped u c) (Err CollectionUnmapped) _ refl f.1 in
+      let k = passed (room_for_pair u d e) (Err TableFull) (Ok tt) refl g.1 in
       record { range = a.0; device = b.0; event = f.0; collection = g.0; room = k.0 }
 
   -- the record that a MOVI changes
-  pub moved : (d : ItsDeviceId) (e : EventId) (c : CollectionId) → accepts u (Movi d e c) ≡ true → (r : Translation) × (translation_of u d e ≡ some r)
+  pub moved : (d : ItsDeviceId) (e : EventId) (c : CollectionId) → accepts u (Movi d e c) ≡ true → (r : Translation) × (translation_of u d e ≡ Some r)
   moved d e c ok =
       found (translation_of u d e)
-      (passed (pair_mapped u d e) (Refused PairUnmapped) Accepted refl (passed (collection_mapped u c) (Refused CollectionUnmapped) _ refl (own u (Movi d e c) ok)).1).0
+      (passed (pair_mapped u d e) (Err PairUnmapped) (Ok tt) refl (passed (collection_mapped u c) (Err CollectionUnmapped) _ refl (own u (Movi d e c) ok)).1).0
 
   pub devices_effect : (x : Command) → accepts u x ≡ true → (d : ItsDeviceId) → bits_in (effect u x) d ≡ after (of_device_says d x) (bits_in u d)
   unfolding store_device store_collection store_translation drop_device drop_collection drop_pair move_pair of_device_says
@@ -149,7 +147,7 @@ module _ (u : ItsState) where
       rw (
         cleared_devices u d',
         look_store (is_device d') (is_device d) (λ r. r.used) (a_device d' bits) u.devices (device_keys d' d) (device_used d) (eq-eqb d'.0 d'.0 refl)
-            (passed (room_for_device u d') (Refused TableFull) Accepted refl (own u (Mapd d' bits true) ok)).0,
+            (passed (room_for_device u d') (Err TableFull) (Ok tt) refl (own u (Mapd d' bits true) ok)).0,
       )
       (cases (same_device d' d) (λ e. rw e) (λ e. rw e))
   devices_effect (Mapd d' bits false) ok d =
@@ -173,7 +171,7 @@ module _ (u : ItsState) where
   collections_effect (Mapd d bits false) ok c = refl
   collections_effect (Mapc c' p true) ok c =
       rw (look_store (is_collection c') (is_collection c) (λ r. r.used) (a_collection c' p) u.collections (collection_keys c' c) (collection_used c) (eq-eqb c'.0 c'.0 refl)
-      (passed (room_for_collection u c') (Refused TableFull) Accepted refl (passed (listed u.config p) (Refused ProcessorUnlisted) _ refl (own u (Mapc c' p true) ok)).1).0)
+      (passed (room_for_collection u c') (Err TableFull) (Ok tt) refl (passed (listed u.config p) (Err ProcessorUnlisted) _ refl (own u (Mapc c' p true) ok)).1).0)
       (cases (same_collection c' c) (λ e. rw e) (λ e. rw e))
   collections_effect (Mapc c' p false) ok c =
       rw (look_drop (is_collection c') (is_collection c) no_collection refl u.collections (same_collection c' c) (collection_drops c c'))
@@ -190,21 +188,21 @@ module _ (u : ItsState) where
 
   -- what is found of a pair after a store of a pair that there is room for
   stored : (d' : ItsDeviceId) (e' : EventId) (l : LpiId) (c : CollectionId) → room_for_pair u d' e' ≡ true → (d : ItsDeviceId) (e : EventId) →
-      entry_in (store_translation d' e' l c u) d e ≡ (if same_pair d' e' d e then some (an_entry l c) else entry_in u d e)
+      entry_in (store_translation d' e' l c u) d e ≡ (if same_pair d' e' d e then Some (an_entry l c) else entry_in u d e)
   unfolding store_translation
   stored d' e' l c fits d e =
       rw (look_store (is_pair d' e') (is_pair d e) (λ r. r.used) (a_translation d' e' l c) u.translations (pair_keys d' e' d e) (pair_used d e) (pair_refl d' e') fits)
       (cases (same_pair d' e' d e) (λ s. rw s) (λ s. rw s))
 
   -- a pair that is mapped needs no free record
-  mapped_room : (d : ItsDeviceId) (e : EventId) {r : Translation} → translation_of u d e ≡ some r → room_for_pair u d e ≡ true
+  mapped_room : (d : ItsDeviceId) (e : EventId) {r : Translation} → translation_of u d e ≡ Some r → room_for_pair u d e ≡ true
   mapped_room d e s = room_same (is_pair d e) (λ r. r.used) u.translations (look_found (is_pair d e) u.translations s)
 
   -- the same pair has the same entry
   mapped_entry : (d' : ItsDeviceId) (e' : EventId) (d : ItsDeviceId) (e : EventId) {r : Translation} →
-      translation_of u d' e' ≡ some r → same_pair d' e' d e ≡ true → entry_in u d e ≡ some (entry_of r)
+      translation_of u d' e' ≡ Some r → same_pair d' e' d e ≡ true → entry_in u d e ≡ Some (entry_of r)
   mapped_entry d' e' d e q s =
-      ap (λ o. when_found o (λ a. some (entry_of a))) (ap₂ (λ x y. translation_of u x y) (sym (pair_device d' e' d e s)) (sym (pair_event d' e' d e s)) ∙ q)
+      ap (λ o. when_found o (λ a. Some (entry_of a))) (ap₂ (λ x y. translation_of u x y) (sym (pair_device d' e' d e s)) (sym (pair_event d' e' d e s)) ∙ q)
 
   -- whether a pair is in a collection is said by the record that counts, of every record of the pair
   abbrev lies_in : CollectionId → Option Translation → Bool
@@ -215,10 +213,10 @@ module _ (u : ItsState) where
 
   -- a drop by collection, seen from the pair
   dropped : (c : CollectionId) (o : Option Translation) →
-      when_found (if lies_in c o then none else o) (λ a. some (entry_of a))
-      ≡ when_found (when_found o (λ a. some (entry_of a))) (λ x. if same_collection x.collection c then none else some x)
-  dropped c none = refl
-  dropped c (some r) = cases (same_collection r.collection c) (λ s. rw s) (λ s. rw s)
+      when_found (if lies_in c o then None else o) (λ a. Some (entry_of a))
+      ≡ when_found (when_found o (λ a. Some (entry_of a))) (λ x. if same_collection x.collection c then None else Some x)
+  dropped c None = refl
+  dropped c (Some r) = cases (same_collection r.collection c) (λ s. rw s) (λ s. rw s)
 
   -- a MAPTI or MAPI
   mapped : (d' : ItsDeviceId) (e' : EventId) (l : LpiId) (c : CollectionId) → is_accepted (check_mapping u d' e' l c) ≡ true → (d : ItsDeviceId) (e : EventId) →
@@ -226,17 +224,17 @@ module _ (u : ItsState) where
   mapped d' e' l c ok d e = rw (stored d' e' l c (allowed d' e' l c ok).room d e) (cases (same_pair d' e' d e) (λ s. rw s) (λ s. rw s))
 
   -- what is left of a pair when the pairs of a device are dropped
-  without : (d' d : ItsDeviceId) (e : EventId) → entry_in (drop_pairs_of d' u) d e ≡ (if same_device d' d then none else entry_in u d e)
+  without : (d' d : ItsDeviceId) (e : EventId) → entry_in (drop_pairs_of d' u) d e ≡ (if same_device d' d then None else entry_in u d e)
   without d' d e =
       rw (look_drop (of_device d') (is_pair d e) no_translation refl u.translations (same_device d' d) (λ a. device_drops_pair d e d' e a))
       (cases (same_device d' d) (λ s. rw s) (λ s. rw s))
 
   -- a valid MAPD of a device that is not mapped meets no pair of it: so it is along every history, and then in strict it ends the pairs of its device
   abbrev pub Clean : Command → Type 0
-  Clean x = (d : ItsDeviceId) (bits : ℕ) → x ≡ Mapd d bits true → device_mapped u d ≡ false → (e : EventId) → entry_in u d e ≡ none
+  Clean x = (d : ItsDeviceId) (bits : ℕ) → x ≡ Mapd d bits true → device_mapped u d ≡ false → (e : EventId) → entry_in u d e ≡ None
 
-  mapped_again : (d' d : ItsDeviceId) (e : EventId) → (device_mapped u d' ≡ false → entry_in u d' e ≡ none) → is_strict u.config.profile ≡ true →
-      entry_in (cleared d' u) d e ≡ (if same_device d' d then none else entry_in u d e)
+  mapped_again : (d' d : ItsDeviceId) (e : EventId) → (device_mapped u d' ≡ false → entry_in u d' e ≡ None) → is_strict u.config.profile ≡ true →
+      entry_in (cleared d' u) d e ≡ (if same_device d' d then None else entry_in u d e)
   unfolding cleared
   mapped_again d' d e clean s =
       cases (device_mapped u d')

@@ -1,10 +1,10 @@
 -- Facts that 01 states or warns of, computed from the definitions on its example: device 5, event 9, LPI 8200, collection 2, processor 1.
 -- Assumes nothing.
+use Rattle.std.specs.Prelude.{None}
 use mathlib.Core.Path.{◌≡◌, refl}
 use mathlib.Core.Bool.{true, false}
 use mathlib.Core.List.{List, [], ◌∷◌, ◌++◌}
 use lib.ListN.{replicate}
-use mathlib.Core.Option.{none}
 use Rattle.model.specs.declared.ItsDeviceId.{ItsDeviceId}
 use Rattle.model.specs.declared.EventId.{EventId}
 use Rattle.model.specs.declared.CollectionId.{CollectionId}
@@ -48,7 +48,7 @@ unfolding shown
 moved_is_ended = refl
 
 -- a DISCARD ends it, in the history
-pub discard_ends : pair_now base dev ev (Discard dev ev ∷ example_met) ≡ none
+pub discard_ends : pair_now base dev ev (Discard dev ev ∷ example_met) ≡ None
 unfolding part_in
 discard_ends = refl
 
@@ -56,7 +56,7 @@ discard_ends = refl
 abbrev dev6 : ItsDeviceId
 dev6 = record { 0 = 6 }
 
-pub mapd_ends_strict : pair_now strict dev ev (mapd 4 ∷ example_met) ≡ none
+pub mapd_ends_strict : pair_now strict dev ev (mapd 4 ∷ example_met) ≡ None
 unfolding part_in
 mapd_ends_strict = refl
 

@@ -1,12 +1,12 @@
 -- What every access keeps, and what demand 3 says of a unit of which it is kept: from a configured unit, whatever accesses follow, the unit agrees with
 -- the history of the commands carried out.
 -- Assumes nothing.
+use Rattle.std.specs.Prelude.{Err, None, Ok, Option, Some}
 use Prim.Native.Nat.{ℕ}
 use native.Mathlib.Omega.{arith}
 use mathlib.Core.Path.{◌≡◌, refl, sym, ap, subst, ◌∙◌}
 use mathlib.Core.Bool.{Bool, true}
 use mathlib.Core.List.{List, [], ◌++◌}
-use mathlib.Core.Option.{Option, none, some}
 use mathlib.Core.Logic.{◌↔◌}
 use Rattle.model.specs.declared.ItsDeviceId.{ItsDeviceId}
 use Rattle.model.specs.declared.EventId.{EventId}
@@ -20,11 +20,8 @@ use Rattle.model.specs.declared.Command.{Command}
 use Rattle.model.specs.declared.Delivery.{Delivery}
 use Rattle.model.specs.declared.Refusal.{Refusal}
 use Rattle.model.specs.declared.Refusal.TheVariants.{Unsound, ResourceNotFound}
-use Rattle.model.specs.declared.Verdict.{Verdict}
-use Rattle.model.specs.declared.Verdict.TheVariants.{Accepted, Refused}
 use Rattle.model.specs.declared.RegisterWrite.{RegisterWrite}
-use Rattle.model.specs.declared.TranslateAnswer.{TranslateAnswer}
-use Rattle.model.specs.declared.TranslateAnswer.TheVariants.{Delivered, NotDelivered}
+use Rattle.model.specs.Answer.{TranslateAnswer, Verdict}
 use Rattle.model.specs.Choose.{◌or◌then◌, if_found}
 use Rattle.model.specs.Profile.{profile_of}
 use Rattle.model.specs.Keys.{delivery}
@@ -57,11 +54,11 @@ fresh_held : (k : ItsConfig) → sound_config k ≡ true → Held k (fresh_unit 
 unfolding sound_ring
 fresh_held k s = record { config = refl; sound = both (sound_config k) true s refl; agrees = agrees_fresh k; backing = sound_fresh k }
 
-pub configured_held : (k : ItsConfig) → (configure k).verdict ≡ Accepted → Held k (configure k).unit []
+pub configured_held : (k : ItsConfig) → (configure k).verdict ≡ Ok tt → Held k (configure k).unit []
 unfolding configure
 configured_held k h =
     cases (sound_config k) (λ s. rw s (fresh_held k s))
-    (λ n. let z : ◌≡◌ {A = Verdict} (Refused Unsound) Accepted = rw n at h in never true refl (cc))
+    (λ n. let z : ◌≡◌ {A = Verdict} (Err Unsound) (Ok tt) = rw n at h in never true refl (cc))
 
 -- A write of a sound unit carries out exactly the commands that it passed.
 module _ (w : Window) (row : List ItsAction) (u : ItsState) (offset width value : ℕ) (sound : sound_unit u ≡ true) {s : RegisterWrite} {o : Outcome}
@@ -100,19 +97,19 @@ pub passes_check : {A : Type 0} (b : Bool) (r k : A) → b ≡ true → (b or r 
 passes_check b r k h = rw h
 
 abbrev answer_to : Option Delivery → TranslateAnswer
-answer_to o = if_found o Delivered (NotDelivered ResourceNotFound)
+answer_to o = if_found o Ok (Err ResourceNotFound)
 
-found_is : (o : Option Delivery) (a : Delivery) → (answer_to o ≡ Delivered a) ↔ (o ≡ some a)
-found_is none a = (λ h. never true refl (cc), λ h. never true refl (cc))
-found_is (some b) a = (λ h. cc, λ h. cc)
+found_is : (o : Option Delivery) (a : Delivery) → (answer_to o ≡ Ok a) ↔ (o ≡ Some a)
+found_is None a = (λ h. never true refl (cc), λ h. never true refl (cc))
+found_is (Some b) a = (λ h. cc, λ h. cc)
 
-missing_is : (o : Option Delivery) → (answer_to o ≡ NotDelivered ResourceNotFound) ↔ (o ≡ none)
-missing_is none = (λ h. refl, λ h. refl)
-missing_is (some b) = (λ h. never true refl (cc), λ h. never true refl (cc))
+missing_is : (o : Option Delivery) → (answer_to o ≡ Err ResourceNotFound) ↔ (o ≡ None)
+missing_is None = (λ h. refl, λ h. refl)
+missing_is (Some b) = (λ h. never true refl (cc), λ h. never true refl (cc))
 
-no_other : (o : Option Delivery) (r : Refusal) → answer_to o ≡ NotDelivered r → r ≡ ResourceNotFound
-no_other none r h = cc
-no_other (some b) r h = never true refl (cc)
+no_other : (o : Option Delivery) (r : Refusal) → answer_to o ≡ Err r → r ≡ ResourceNotFound
+no_other None r h = cc
+no_other (Some b) r h = never true refl (cc)
 
 -- WHAT IS DEMANDED, of such a unit.
 module _ {k : ItsConfig} {u : ItsState} {h : List Command} (m : Held k u h) where
@@ -124,19 +121,19 @@ module _ {k : ItsConfig} {u : ItsState} {h : List Command} (m : Held k u h) wher
   promised = subst (λ c. Promise c u h) m.config (promise u h m.agrees (rw m.config m.backing))
 
   -- a pair translates exactly where the commands of the history send it, and to what they give
-  pub translates : (d : ItsDeviceId) (e : EventId) (l : LpiId) (p : GicVcpuId) → (translate u d e ≡ Delivered (delivery l p)) ↔ SentTo (profile_of k) h d e l p
+  pub translates : (d : ItsDeviceId) (e : EventId) (l : LpiId) (p : GicVcpuId) → (translate u d e ≡ Ok (delivery l p)) ↔ SentTo (profile_of k) h d e l p
   translates d e l p = (
     λ q. (promised.sent d e l p).1 ((found_is (delivery_in u d e) (delivery l p)).0 (sym (translation d e) ∙ q)),
     λ s. translation d e ∙ (found_is (delivery_in u d e) (delivery l p)).1 ((promised.sent d e l p).0 s),
   )
 
   -- it is answered with 8 exactly where the pair is not in force
-  pub nowhere : (d : ItsDeviceId) (e : EventId) → (translate u d e ≡ NotDelivered ResourceNotFound) ↔ ((l : LpiId) (c : CollectionId) → InForce (profile_of k) h d e l c → ⊥)
+  pub nowhere : (d : ItsDeviceId) (e : EventId) → (translate u d e ≡ Err ResourceNotFound) ↔ ((l : LpiId) (c : CollectionId) → InForce (profile_of k) h d e l c → ⊥)
   nowhere d e = (
     λ q. (promised.nowhere d e).1 ((missing_is (delivery_in u d e)).0 (sym (translation d e) ∙ q)),
     λ n. translation d e ∙ (missing_is (delivery_in u d e)).1 ((promised.nowhere d e).0 n),
   )
 
   -- and with nothing else but 8
-  pub only_8 : (d : ItsDeviceId) (e : EventId) (r : Refusal) → translate u d e ≡ NotDelivered r → r ≡ ResourceNotFound
+  pub only_8 : (d : ItsDeviceId) (e : EventId) (r : Refusal) → translate u d e ≡ Err r → r ≡ ResourceNotFound
   only_8 d e r q = no_other (delivery_in u d e) r (sym (translation d e) ∙ q)

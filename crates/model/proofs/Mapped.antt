@@ -1,11 +1,11 @@
 -- "A device or collection is mapped if its last MAPD or MAPC carried out was valid", and "its processor is that of the last valid MAPC of that
 -- collection": the paragraph's words say what History.antt computes.
 -- Assumes nothing.
+use Rattle.std.specs.Prelude.{Some}
 use Prim.Native.Nat.{ℕ}
 use mathlib.Core.Path.{◌≡◌, refl, ap}
 use mathlib.Core.Bool.{Bool, true, false}
 use mathlib.Core.List.{List}
-use mathlib.Core.Option.{some}
 use mathlib.Core.Logic.{◌↔◌}
 use borrow.Author.Tests.{eq-eqb}
 use Rattle.model.specs.declared.ItsDeviceId.{ItsDeviceId}
@@ -60,7 +60,7 @@ module _ (d : ItsDeviceId) where
         spoken = λ y m s. a_mapd_speaks m.0 m.1 (rw m.2 at s);
       }
 
-  pub device_mapped_lem : (h : List Command) (bits : ℕ) → DeviceMapped h d bits ↔ (device_now d h ≡ some bits)
+  pub device_mapped_lem : (h : List Command) (bits : ℕ) → DeviceMapped h d bits ↔ (device_now d h ≡ Some bits)
   device_mapped_lem = last_iff (of_device_says d) (MapdOf d) speak_device (λ bits. Mapd d bits true) a_mapd_maps (λ x bits e. rw e at (says_it x))
 
 -- Of a collection.
@@ -102,7 +102,7 @@ module _ (c : CollectionId) where
         spoken = λ y m s. a_mapc_speaks m.0 m.1 (rw m.2 at s);
       }
 
-  pub collection_mapped_lem : (h : List Command) (p : GicVcpuId) → CollectionMapped h c p ↔ (collection_now c h ≡ some p)
+  pub collection_mapped_lem : (h : List Command) (p : GicVcpuId) → CollectionMapped h c p ↔ (collection_now c h ≡ Some p)
   collection_mapped_lem = last_iff (of_collection_says c) (MapcOf c) speak_collection (λ p. Mapc c p true) a_mapc_maps (λ x p e. rw e at (says_of x))
 
   -- Of its processor.
@@ -134,11 +134,11 @@ module _ (c : CollectionId) where
         spoken = λ y m s. let z : maps_it m.0 ≡ silent = rw (processor_maps m.0) at (rw m.1 at s) in never true refl (cc);
       }
 
-  pub processor_of : (h : List Command) (p : GicVcpuId) → ProcessorOf h c p ↔ (processor_now c h ≡ some p)
+  pub processor_of : (h : List Command) (p : GicVcpuId) → ProcessorOf h c p ↔ (processor_now c h ≡ Some p)
   processor_of = last_iff SaysProcessor (ValidMapcOf c) speak_processor (λ p. Mapc c p true) processor_maps says_processor
 
   -- the processor of a mapped collection: its last MAPC was valid, and so was its last valid one
-  pub mapped_processor : (h : List Command) (p : GicVcpuId) → collection_now c h ≡ some p → processor_now c h ≡ some p
+  pub mapped_processor : (h : List Command) (p : GicVcpuId) → collection_now c h ≡ Some p → processor_now c h ≡ Some p
   mapped_processor h p q =
       let l = (collection_mapped_lem h p).1 q in
       (processor_of h p).0 (record { later = l.later; before = l.before; there = l.there; is_one = (p, refl); none_later = λ y i m. l.none_later y (i.0, true, i.1) m })

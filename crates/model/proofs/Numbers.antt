@@ -1,12 +1,11 @@
 -- Document 02, A1 and A3: a number names one refusal, and folded it is 01's.
 -- Assumes nothing.
-use Rattle.std.specs.Prelude.{if◌then◌else◌}
+use Rattle.std.specs.Prelude.{if◌then◌else◌, None, Option, Some}
 use Prim.Native.Nat.{ℕ, ◌≤◌}
 use borrow.Author.Tests.{leb-true}
 use mathlib.Core.Path.{◌≡◌, refl}
 use mathlib.Core.Bool.{◌&&◌}
 use mathlib.Core.List.{[], ◌∷◌, map}
-use mathlib.Core.Option.{Option, none, some}
 use mathlib.Core.Logic.{◌⊎◌, inl, inr}
 use lib.Dec.{leb, eqb}
 use Rattle.model.specs.declared.Refusal.{Refusal}
@@ -54,28 +53,28 @@ folded_only n =
 -- the refusal that a number names
 named : ℕ → Option Refusal
 named n =
-    if eqb n 1 then some Unsound else
-    if eqb n 2 then some InvalidAccess else
-    if eqb n 3 then some Identification else
-    if eqb n 4 then some BaseZero else
-    if eqb n 5 then some BudgetExceeded else
-    if eqb n 6 then some NotInWindow else
-    if eqb n 7 then some WriterRefused else
-    if eqb n 8 then some ResourceNotFound else
-    if eqb n 9 then some TableFull else
-    if eqb n 10 then some RowTooShort else
-    if eqb n 11 then some LineDoesNotFit else
-    if eqb n 20 then some OpcodeUnknown else
-    if eqb n 21 then some LpiOutOfRange else
-    if eqb n 22 then some DeviceUnmapped else
-    if eqb n 23 then some EventBeyondBits else
-    if eqb n 24 then some CollectionUnmapped else
-    if eqb n 25 then some PairUnmapped else
-    if eqb n 26 then some ProcessorUnlisted else
-    if eqb n 27 then some DeviceTooLarge else
-    none
+    if eqb n 1 then Some Unsound else
+    if eqb n 2 then Some InvalidAccess else
+    if eqb n 3 then Some Identification else
+    if eqb n 4 then Some BaseZero else
+    if eqb n 5 then Some BudgetExceeded else
+    if eqb n 6 then Some NotInWindow else
+    if eqb n 7 then Some WriterRefused else
+    if eqb n 8 then Some ResourceNotFound else
+    if eqb n 9 then Some TableFull else
+    if eqb n 10 then Some RowTooShort else
+    if eqb n 11 then Some LineDoesNotFit else
+    if eqb n 20 then Some OpcodeUnknown else
+    if eqb n 21 then Some LpiOutOfRange else
+    if eqb n 22 then Some DeviceUnmapped else
+    if eqb n 23 then Some EventBeyondBits else
+    if eqb n 24 then Some CollectionUnmapped else
+    if eqb n 25 then Some PairUnmapped else
+    if eqb n 26 then Some ProcessorUnlisted else
+    if eqb n 27 then Some DeviceTooLarge else
+    None
 
-names : (why : Refusal) → named (number_of why) ≡ some why
+names : (why : Refusal) → named (number_of why) ≡ Some why
 unfolding named
 names Unsound = refl
 names RowTooShort = refl
@@ -100,7 +99,7 @@ names LineDoesNotFit = refl
 -- two refusals with one number are one
 pub one_reason : (a b : Refusal) → number_of a ≡ number_of b → a ≡ b
 one_reason a b h =
-    let same : some a ≡ some b = rw (← names a, h, names b) refl in
+    let same : Some a ≡ Some b = rw (← names a, h, names b) refl in
     cc
 
 -- and 0 is no refusal's number

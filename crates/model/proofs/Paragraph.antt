@@ -1,10 +1,10 @@
 -- "A pair is in force if ..": the paragraph's words (specs/Paragraph.antt) say what History.antt computes command by command.
 -- Assumes nothing.
+use Rattle.std.specs.Prelude.{None, Option, Some}
 use Prim.Native.Nat.{ℕ}
 use mathlib.Core.Path.{◌≡◌, refl, sym, ap, ap₂, ◌∙◌}
 use mathlib.Core.Bool.{Bool, true, false}
 use mathlib.Core.List.{List, [], ◌∷◌, ◌++◌}
-use mathlib.Core.Option.{Option, none, some}
 use mathlib.Core.Logic.{◌⊎◌, inl, inr, ⊎_elim, ◌↔◌}
 use borrow.Author.Tests.{eq-eqb}
 use Rattle.model.specs.declared.ItsDeviceId.{ItsDeviceId}
@@ -137,8 +137,8 @@ module _ (f : Profile) (d : ItsDeviceId) (e : EventId) where
   )
     where
       there : (o : Option CollectionId) → now moves_to later ≡ o → c ≡ if_found o (λ c. c) first → Names d e first later c
-      there none n q = inl (q, now_none moves_to (MoviOf d e) speak_movi (λ x. never_unmoves (part_in f d e x)) later n)
-      there (some c') n q = inr ((last_iff moves_to (MoviOf d e) speak_movi (λ c. Movi d e c) movi_moves is_movi later c).1 (rw q n))
+      there None n q = inl (q, now_none moves_to (MoviOf d e) speak_movi (λ x. never_unmoves (part_in f d e x)) later n)
+      there (Some c') n q = inr ((last_iff moves_to (MoviOf d e) speak_movi (λ c. Movi d e c) movi_moves is_movi later c).1 (rw q n))
 
   -- Commands that neither map the pair anew nor end it: `c` is the collection that it names at that moment.
   abbrev Spares : Part → CollectionId → Type 0
@@ -154,7 +154,7 @@ module _ (f : Profile) (d : ItsDeviceId) (e : EventId) where
 
   -- a command that spares a pair leaves it its LPI, in the collection that a MOVI may have given it
   spares : (x : Command) (p : Part) → part_in f d e x ≡ p → (l : LpiId) (first : CollectionId) (later : List Command) → Spares p (collection_after first later) →
-      pair_after p (some (an_entry l (collection_after first later))) ≡ some (an_entry l (collection_after first (x ∷ later)))
+      pair_after p (Some (an_entry l (collection_after first later))) ≡ Some (an_entry l (collection_after first (x ∷ later)))
   spares x (maps l' c') q l first later s = absurd s
   spares x (moves c') q l first later s = rw q
   spares x ends q l first later s = absurd s
@@ -162,7 +162,7 @@ module _ (f : Profile) (d : ItsDeviceId) (e : EventId) where
   spares x leaves q l first later s = rw q
 
   kept : (l : LpiId) (first : CollectionId) (x : Command) (before later : List Command) → part_in f d e x ≡ maps l first → AllSpare first later →
-      pair_now f d e (later ++ x ∷ before) ≡ some (an_entry l (collection_after first later))
+      pair_now f d e (later ++ x ∷ before) ≡ Some (an_entry l (collection_after first later))
   kept l first x before [] m s = rw m
   kept l first x before (y ∷ later) m s = rw (kept l first x before later m s.1) (spares y (part_in f d e y) refl l first later s.0)
 
@@ -230,11 +230,11 @@ module _ (f : Profile) (d : ItsDeviceId) (e : EventId) where
     lies : y.collection ≡ collection_after first later
 
   -- one more command that spares it
-  more : (x : Command) (h : List Command) (p : Part) → part_in f d e x ≡ p → (y z : PairEntry) → Made h z → Spares p z.collection → pair_after p (some z) ≡ some y → Made (x ∷ h) y
+  more : (x : Command) (h : List Command) (p : Part) → part_in f d e x ≡ p → (y z : PairEntry) → Made h z → Spares p z.collection → pair_after p (Some z) ≡ Some y → Made (x ∷ h) y
   more x h p q y z g s a =
       let t : Spares p (collection_after g.first g.later) = rw g.lies at s in
-      let w₀ : some (an_entry z.lpi (collection_after g.first (x ∷ g.later))) ≡ some y =
-      sym (spares x p q z.lpi g.first g.later t) ∙ (ap (λ k. pair_after p (some (an_entry z.lpi k))) (sym g.lies) ∙ a) in
+      let w₀ : Some (an_entry z.lpi (collection_after g.first (x ∷ g.later))) ≡ Some y =
+      sym (spares x p q z.lpi g.first g.later t) ∙ (ap (λ k. pair_after p (Some (an_entry z.lpi k))) (sym g.lies) ∙ a) in
       let w : an_entry z.lpi (collection_after g.first (x ∷ g.later)) ≡ y = cc in
       record {
         mapping = g.mapping;
@@ -247,18 +247,18 @@ module _ (f : Profile) (d : ItsDeviceId) (e : EventId) where
         lies = rw (← w);
       }
 
-  make : (h : List Command) (y : PairEntry) → pair_now f d e h ≡ some y → Made h y
+  make : (h : List Command) (y : PairEntry) → pair_now f d e h ≡ Some y → Made h y
   make [] y q = never true refl (cc)
   make (x ∷ h) y q = go (part_in f d e x) refl (which x) (came (part_in f d e x) (pair_now f d e h) y q) (make h)
     where
-      go : (p : Part) → part_in f d e x ≡ p → Is p x → Came p (pair_now f d e h) y → ((z : PairEntry) → pair_now f d e h ≡ some z → Made h z) → Made (x ∷ h) y
+      go : (p : Part) → part_in f d e x ≡ p → Is p x → Came p (pair_now f d e h) y → ((z : PairEntry) → pair_now f d e h ≡ Some z → Made h z) → Made (x ∷ h) y
       go (maps l c) e i k ih = record { mapping = x; first = c; later = []; before = h; there = refl; made = rw k i; spare = tt; lies = rw k }
-      go (moves c) e i k ih = more x h (moves c) e y k.0 (ih k.0 k.1) tt (ap some (sym k.2))
+      go (moves c) e i k ih = more x h (moves c) e y k.0 (ih k.0 k.1) tt (ap Some (sym k.2))
       go ends e i k ih = absurd k
       go (ends_in c) e i k ih = more x h (ends_in c) e y y (ih y k.0) k.1 (rw k.1)
       go leaves e i k ih = more x h leaves e y y (ih y k) tt refl
 
-  pub in_force : (h : List Command) (l : LpiId) (c : CollectionId) → InForce f h d e l c ↔ (pair_now f d e h ≡ some (an_entry l c))
+  pub in_force : (h : List Command) (l : LpiId) (c : CollectionId) → InForce f h d e l c ↔ (pair_now f d e h ≡ Some (an_entry l c))
   in_force h l c = (
     λ i.
         let n : Unended i.first i.last.later =

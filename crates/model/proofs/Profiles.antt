@@ -1,12 +1,11 @@
 -- What the profile says of a configuration; and a base unit is document 01's (specs/In01.antt).
 -- Assumes nothing.
-use Rattle.std.specs.Prelude.{if◌then◌else◌}
+use Rattle.std.specs.Prelude.{if◌then◌else◌, Err, None, Ok, Option, Some}
 use Prim.Native.Nat.{ℕ, zero, suc, ◌+◌, ◌^◌, ◌≤◌, ◌<◌}
 use native.Mathlib.Omega.{arith}
 use mathlib.Core.Path.{◌≡◌, refl, sym, ap, ◌∙◌}
 use mathlib.Core.Bool.{Bool, true, false, ◌&&◌, ◌||◌, not}
 use mathlib.Core.List.{List, []}
-use mathlib.Core.Option.{Option, none, some}
 use lib.Dec.{leb, ltb, eqb}
 use borrow.Author.Tests.{le-ltb, ltb-true}
 use Rattle.model.specs.declared.ItsDeviceId.{ItsDeviceId}
@@ -20,10 +19,8 @@ use Rattle.model.specs.declared.Register.TheVariants.{Ctlr, Iidr, Typer, Cbaser,
 use Rattle.model.specs.declared.RegisterWrite.{RegisterWrite}
 use Rattle.model.specs.declared.Command.{Command}
 use Rattle.model.specs.declared.Command.TheVariants.{Mapd, Mapc, Mapti, Mapi, Movi, Int, Clear, Discard, Inv, Invall, Sync}
-use Rattle.model.specs.declared.Decoded.{Decoded}
-use Rattle.model.specs.declared.Decoded.TheVariants.{Known, Unknown}
 use Rattle.model.specs.declared.Refusal.TheVariants.{NotInWindow, DeviceTooLarge}
-use Rattle.model.specs.declared.Verdict.TheVariants.{Refused}
+use Rattle.model.specs.Answer.{Decoded}
 use Rattle.model.specs.Choose.{◌or◌then◌, if_found, when_found}
 use Rattle.model.specs.Arm.{◌of◌, TYPER_Devbits, CBASER_Valid}
 use Rattle.model.specs.With.{with_registers, with_stalled, with_reader}
@@ -35,7 +32,7 @@ use Rattle.model.specs.Queue.{Window, command_at, waiting, command_address, Turn
 use Rattle.model.specs.Passed.{if_known, command_here}
 use Rattle.model.specs.Register.{bits_needed, typer_value, is_stalled, creadr_value, written_by, register_at}
 use Rattle.model.specs.Access.{check_read, check_write}
-use Rattle.model.specs.Writing.{to_cbaser, retries, offered, to_cwriter, write_register, register_write}
+use Rattle.model.specs.Writing.{to_cbaser, retries, offered, to_cwriter, write_register, register_write, then_runs}
 use Rattle.model.specs.Entry.{read_from, read, translate, running, concluded, stores, configure, write}
 use Rattle.model.specs.In01.{configure_in01, value_in01, read_in01, translate_in01, turn_on_in01, turn_in01, carry_out_in01, go_on_in01, run_in01, run_queue_in01, write_register_in01, stores_in01, concluded_in01, write_in01}
 use Rattle.model.specs.Common.{Common}
@@ -106,7 +103,7 @@ unfolding creadr_value
 creadr_plain k r n = rw n
 
 -- a run that no command stopped leaves Stalled
-pub halting_none : (q : Ran) → q.stopped ≡ none → halting q ≡ q
+pub halting_none : (q : Ran) → q.stopped ≡ None → halting q ≡ q
 halting_none q n = ap (λ o. record { unit = if_found o (λ s. stall q.unit) q.unit; done = q.done; actions = q.actions; stopped = q.stopped }) n
 
 -- device numbers above 65535 are beyond what TYPER announces
@@ -134,13 +131,13 @@ abbrev pub Plain : ItsState → Command → Type 0
 Plain u x = (check u x ≡ check_in01 u x) × (effect u x ≡ effect_in01 u x)
 
 module _ (u : ItsState) where
-  not_large : (x : Command) → ((d : ItsDeviceId) → device_named x ≡ some d → too_large u.config d ≡ false) → check u x ≡ check_in01 u x
+  not_large : (x : Command) → ((d : ItsDeviceId) → device_named x ≡ Some d → too_large u.config d ≡ false) → check u x ≡ check_in01 u x
   not_large x n = go (device_named x) n
     where
-      go : (o : Option ItsDeviceId) → ((d : ItsDeviceId) → o ≡ some d → too_large u.config d ≡ false) →
-          (not (if_found o (too_large u.config) false) or Refused DeviceTooLarge then check_in01 u x) ≡ check_in01 u x
-      go none n = refl
-      go (some d) n = rw (n d refl)
+      go : (o : Option ItsDeviceId) → ((d : ItsDeviceId) → o ≡ Some d → too_large u.config d ≡ false) →
+          (not (if_found o (too_large u.config) false) or Err DeviceTooLarge then check_in01 u x) ≡ check_in01 u x
+      go None n = refl
+      go (Some d) n = rw (n d refl)
 
   nothing_before : (x : Command) → ((d : ItsDeviceId) (bits : ℕ) → x ≡ Mapd d bits true → cleared d u ≡ u) → beforehand u x ≡ u
   nothing_before (Mapd d bits true) n = n d bits refl
@@ -170,19 +167,19 @@ module _ (u : ItsState) where
   )
 
 -- A turn, where the command on which CREADR stands is plain.
-module _ (w : Window) (u : ItsState) (plain : (x : Command) → command_here w u.registers ≡ some x → Plain u x) where
+module _ (w : Window) (u : ItsState) (plain : (x : Command) → command_here w u.registers ≡ Some x → Plain u x) where
   pub turn_in_01 : turn w u ≡ turn_in01 w u
   unfolding turn turn_in01 command_here
   turn_in_01 = by_words (command_at w (command_address u.registers u.registers.creadr)) (λ x q. plain x q)
     where
-      by_decoded : (k : Decoded) (opcode : ℕ) → ((x : Command) → if_known k ≡ some x → Plain u x) → turn_on u opcode k ≡ turn_on_in01 u opcode k
-      by_decoded (Known x) opcode p = ap (λ v. judged v x opcode) (p x refl).0
-      by_decoded (Unknown n) opcode p = refl
+      by_decoded : (k : Decoded) (opcode : ℕ) → ((x : Command) → if_known k ≡ Some x → Plain u x) → turn_on u opcode k ≡ turn_on_in01 u opcode k
+      by_decoded (Ok x) opcode p = ap (λ v. judged v x opcode) (p x refl).0
+      by_decoded (Err n) opcode p = refl
 
-      by_words : (o : Option (List ℕ)) → ((x : Command) → when_found o (λ ws. if_known (decode ws)) ≡ some x → Plain u x) →
+      by_words : (o : Option (List ℕ)) → ((x : Command) → when_found o (λ ws. if_known (decode ws)) ≡ Some x → Plain u x) →
           if_found o (λ ws. turn_on u (opcode_of ws) (decode ws)) (stays NotInWindow 0) ≡ if_found o (λ ws. turn_on_in01 u (opcode_of ws) (decode ws)) (stays NotInWindow 0)
-      by_words none p = refl
-      by_words (some ws) p = by_decoded (decode ws) (opcode_of ws) p
+      by_words None p = refl
+      by_words (Some ws) p = by_decoded (decode ws) (opcode_of ws) p
 
   pub carried_in_01 : (x : Command) → turn w u ≡ passes x → carry_out u x ≡ carry_out_in01 u x
   unfolding carry_out carry_out_in01 turn command_here
@@ -223,8 +220,8 @@ module _ (w : Window) where
   base_halting q b = ap (λ u. record { unit = u; done = q.done; actions = q.actions; stopped = q.stopped }) (by_stop q.stopped)
     where
       by_stop : (o : Option Stop) → if_found o (λ s. stall q.unit) q.unit ≡ q.unit
-      by_stop none = refl
-      by_stop (some s) = rw b
+      by_stop None = refl
+      by_stop (Some s) = rw b
 
   base_queue : (u : ItsState) → is_strict u.config.profile ≡ false → run_queue w u ≡ run_queue_in01 w u
   unfolding run_queue run_queue_in01 may_run held
@@ -246,7 +243,7 @@ base_known k b = rw b
 
 -- the actions of a write, by what its run comes to
 abbrev pub made_by : (ItsState → Ran) → ItsState → RegisterWrite → List ItsAction
-made_by q u s = if s.runs then (q (with_registers u s.registers)).actions else []
+made_by q u s = if then_runs s then (q (with_registers u s.registers)).actions else []
 
 module _ (u : ItsState) (b : u.config.profile ≡ 0) where
   not_strict : is_strict u.config.profile ≡ false

@@ -1,11 +1,11 @@
 -- Demand 3 over the model's own definitions, of any unit that agrees with a history, and of that history: a step on the way to what a reader finds in
 -- `guarantees: MappingsInForce`.
 -- Assumes nothing.
+use Rattle.std.specs.Prelude.{None, Option, Some}
 use Prim.Native.Nat.{ℕ, ◌≤◌}
 use mathlib.Core.Path.{◌≡◌, refl, sym, ap, ◌∙◌}
 use mathlib.Core.Bool.{true}
 use mathlib.Core.List.{List}
-use mathlib.Core.Option.{Option, none, some}
 use mathlib.Core.Logic.{◌↔◌}
 use lib.Dec.{leb}
 use borrow.Author.Tests.{leb-true, ltb-true, ltb-false}
@@ -38,9 +38,9 @@ use Rattle.model.proofs.Paragraph.{in_force}
 -- what is promised of the unit u, configured with k, and of the history h
 pub record Promise (k : ItsConfig) (u : ItsState) (h : List Command) : Type 0 where
   -- a pair in force translates to what the commands give, and whatever translates is in force
-  pub sent : (d : ItsDeviceId) (e : EventId) (l : LpiId) (p : GicVcpuId) → SentTo (profile_of k) h d e l p ↔ (delivery_in u d e ≡ some (delivery l p))
+  pub sent : (d : ItsDeviceId) (e : EventId) (l : LpiId) (p : GicVcpuId) → SentTo (profile_of k) h d e l p ↔ (delivery_in u d e ≡ Some (delivery l p))
   -- a pair that is not in force does not translate, and whatever does not translate is not in force
-  pub nowhere : (d : ItsDeviceId) (e : EventId) → ((l : LpiId) (c : CollectionId) → InForce (profile_of k) h d e l c → ⊥) ↔ (delivery_in u d e ≡ none)
+  pub nowhere : (d : ItsDeviceId) (e : EventId) → ((l : LpiId) (c : CollectionId) → InForce (profile_of k) h d e l c → ⊥) ↔ (delivery_in u d e ≡ None)
   pub backed : (d : ItsDeviceId) (e : EventId) (l : LpiId) (c : CollectionId) → InForce (profile_of k) h d e l c → Backed k h d l c
   -- in strict it lies below its device's capacity
   pub below : is_strict k.profile ≡ true → (d : ItsDeviceId) (e : EventId) (l : LpiId) (c : CollectionId) → InForce (profile_of k) h d e l c → BelowCapacity h d e
@@ -50,18 +50,18 @@ pub record Promise (k : ItsConfig) (u : ItsState) (h : List Command) : Type 0 wh
 -- a message's way in the unit, in terms of what the unit says of pairs and of collections
 module _ (u : ItsState) where
   to_target : (r : Translation) (o : Option ItsCollection) →
-      when_found o (λ k. some (delivery r.lpi k.target)) ≡ when_found (when_found o (λ k. some k.target)) (λ p. some (delivery r.lpi p))
-  to_target r none = refl
-  to_target r (some k) = refl
+      when_found o (λ k. Some (delivery r.lpi k.target)) ≡ when_found (when_found o (λ k. Some k.target)) (λ p. Some (delivery r.lpi p))
+  to_target r None = refl
+  to_target r (Some k) = refl
 
   to_entry : (o : Option Translation) →
-      when_found o (λ r. when_found (collection_of u r.collection) (λ k. some (delivery r.lpi k.target)))
-      ≡ when_found (when_found o (λ r. some (entry_of r))) (λ x. when_found (target_in u x.collection) (λ p. some (delivery x.lpi p)))
-  to_entry none = refl
-  to_entry (some r) = to_target r (collection_of u r.collection)
+      when_found o (λ r. when_found (collection_of u r.collection) (λ k. Some (delivery r.lpi k.target)))
+      ≡ when_found (when_found o (λ r. Some (entry_of r))) (λ x. when_found (target_in u x.collection) (λ p. Some (delivery x.lpi p)))
+  to_entry None = refl
+  to_entry (Some r) = to_target r (collection_of u r.collection)
 
   way : (d : ItsDeviceId) (e : EventId) →
-      delivery_in u d e ≡ when_found (entry_in u d e) (λ x. when_found (target_in u x.collection) (λ p. some (delivery x.lpi p)))
+      delivery_in u d e ≡ when_found (entry_in u d e) (λ x. when_found (target_in u x.collection) (λ p. Some (delivery x.lpi p)))
   unfolding delivery_in
   way d e = to_entry (translation_of u d e)
 
@@ -70,7 +70,7 @@ module _ (u : ItsState) (h : List Command) (agrees : Agrees h u) (sound : Sound 
   f = profile_of u.config
 
   -- the collection of a pair in force is mapped; its processor is that of the last MAPC, which is the last valid one
-  backing : (d : ItsDeviceId) (e : EventId) (x : PairEntry) → pair_now f d e h ≡ some x → (p : GicVcpuId) × (collection_now x.collection h ≡ some p)
+  backing : (d : ItsDeviceId) (e : EventId) (x : PairEntry) → pair_now f d e h ≡ Some x → (p : GicVcpuId) × (collection_now x.collection h ≡ Some p)
   backing d e x q = found (collection_now x.collection h) (sound.behind d e x q).collection
 
   -- the unit sends a message of the pair where the history does
@@ -79,40 +79,40 @@ module _ (u : ItsState) (h : List Command) (agrees : Agrees h u) (sound : Sound 
   delivers d e = way u d e ∙ rw (agrees.pairs d e) (go (pair_now f d e h) refl)
     where
       go : (o : Option PairEntry) → pair_now f d e h ≡ o →
-          when_found o (λ x. when_found (target_in u x.collection) (λ p. some (delivery x.lpi p)))
-          ≡ when_found o (λ x. when_found (processor_now x.collection h) (λ p. some (delivery x.lpi p)))
-      go none q = refl
-      go (some x) q =
+          when_found o (λ x. when_found (target_in u x.collection) (λ p. Some (delivery x.lpi p)))
+          ≡ when_found o (λ x. when_found (processor_now x.collection h) (λ p. Some (delivery x.lpi p)))
+      go None q = refl
+      go (Some x) q =
           let (p, m) = backing d e x q in
           rw (agrees.collections x.collection, m, mapped_processor x.collection h p m)
 
   -- what the commands give, computed and in the paragraph's words
-  gives : (d : ItsDeviceId) (e : EventId) (l : LpiId) (p : GicVcpuId) → SentTo f h d e l p → delivery_of f h d e ≡ some (delivery l p)
+  gives : (d : ItsDeviceId) (e : EventId) (l : LpiId) (p : GicVcpuId) → SentTo f h d e l p → delivery_of f h d e ≡ Some (delivery l p)
   unfolding delivery_of
   gives d e l p s =
       rw ((in_force f d e h l s.collection).0 s.in_force, (processor_of s.collection h p).0 s.processor)
 
-  given : (d : ItsDeviceId) (e : EventId) (l : LpiId) (p : GicVcpuId) → delivery_of f h d e ≡ some (delivery l p) → SentTo f h d e l p
+  given : (d : ItsDeviceId) (e : EventId) (l : LpiId) (p : GicVcpuId) → delivery_of f h d e ≡ Some (delivery l p) → SentTo f h d e l p
   unfolding delivery_of
   given d e l p q = go (pair_now f d e h) refl q
     where
-      at_processor : (x : PairEntry) → pair_now f d e h ≡ some x → (o : Option GicVcpuId) → processor_now x.collection h ≡ o →
-          when_found o (λ p. some (delivery x.lpi p)) ≡ some (delivery l p) → SentTo f h d e l p
-      at_processor x n none m r = never true refl (cc)
-      at_processor x n (some p') m r =
+      at_processor : (x : PairEntry) → pair_now f d e h ≡ Some x → (o : Option GicVcpuId) → processor_now x.collection h ≡ o →
+          when_found o (λ p. Some (delivery x.lpi p)) ≡ Some (delivery l p) → SentTo f h d e l p
+      at_processor x n None m r = never true refl (cc)
+      at_processor x n (Some p') m r =
           let same : delivery x.lpi p' ≡ delivery l p = cc in
           let sl : x.lpi ≡ l = ap (λ a. a.lpi) same in
           let sp : p' ≡ p = ap (λ a. a.target) same in
           record {
             collection = x.collection;
-            in_force = (in_force f d e h l x.collection).1 (n ∙ ap (λ z. some (an_entry z x.collection)) sl);
-            processor = (processor_of x.collection h p).1 (m ∙ ap some sp);
+            in_force = (in_force f d e h l x.collection).1 (n ∙ ap (λ z. Some (an_entry z x.collection)) sl);
+            processor = (processor_of x.collection h p).1 (m ∙ ap Some sp);
           }
 
       go : (o : Option PairEntry) → pair_now f d e h ≡ o →
-          when_found o (λ x. when_found (processor_now x.collection h) (λ p. some (delivery x.lpi p))) ≡ some (delivery l p) → SentTo f h d e l p
-      go none n r = never true refl (cc)
-      go (some x) n r = at_processor x n (processor_now x.collection h) refl r
+          when_found o (λ x. when_found (processor_now x.collection h) (λ p. Some (delivery x.lpi p))) ≡ Some (delivery l p) → SentTo f h d e l p
+      go None n r = never true refl (cc)
+      go (Some x) n r = at_processor x n (processor_now x.collection h) refl r
 
   -- a pair in force is sent somewhere
   sent_somewhere : (d : ItsDeviceId) (e : EventId) (l : LpiId) (c : CollectionId) → InForce f h d e l c → (p : GicVcpuId) × SentTo f h d e l p
@@ -120,13 +120,13 @@ module _ (u : ItsState) (h : List Command) (agrees : Agrees h u) (sound : Sound 
       let (p, m) = backing d e (an_entry l c) ((in_force f d e h l c).0 i) in
       (p, record { collection = c; in_force = i; processor = (processor_of c h p).1 (mapped_processor c h p m) })
 
-  not_given : (d : ItsDeviceId) (e : EventId) → ((l : LpiId) (c : CollectionId) → InForce f h d e l c → ⊥) → delivery_of f h d e ≡ none
+  not_given : (d : ItsDeviceId) (e : EventId) → ((l : LpiId) (c : CollectionId) → InForce f h d e l c → ⊥) → delivery_of f h d e ≡ None
   unfolding delivery_of
   not_given d e n = go (pair_now f d e h) refl
     where
-      go : (o : Option PairEntry) → pair_now f d e h ≡ o → when_found o (λ x. when_found (processor_now x.collection h) (λ p. some (delivery x.lpi p))) ≡ none
-      go none q = refl
-      go (some x) q = absurd (n x.lpi x.collection ((in_force f d e h x.lpi x.collection).1 q))
+      go : (o : Option PairEntry) → pair_now f d e h ≡ o → when_found o (λ x. when_found (processor_now x.collection h) (λ p. Some (delivery x.lpi p))) ≡ None
+      go None q = refl
+      go (Some x) q = absurd (n x.lpi x.collection ((in_force f d e h x.lpi x.collection).1 q))
 
   pub promise : Promise u.config u h
   unfolding lpi_in_range event_below
@@ -140,7 +140,7 @@ module _ (u : ItsState) (h : List Command) (agrees : Agrees h u) (sound : Sound 
           λ n. delivers d e ∙ not_given d e n,
           λ q l c i.
               let (p, s) = sent_somewhere d e l c i in
-              let z : ◌≡◌ {A = Option Delivery} none (some (delivery l p)) = sym q ∙ (delivers d e ∙ gives d e l p s) in
+              let z : ◌≡◌ {A = Option Delivery} None (Some (delivery l p)) = sym q ∙ (delivers d e ∙ gives d e l p s) in
               never true refl (cc),
         );
         backed = λ d e l c i.

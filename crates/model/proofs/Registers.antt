@@ -1,7 +1,7 @@
 -- What a unit of each profile stores, beside what document 01's unit stores (specs/In01.antt). In strict it is that of the value without bit 0 at CWRITER, but
 -- for Stalled (02, A4); and in base it makes no difference what stands in Stalled.
 -- Assumes nothing.
-use Rattle.std.specs.Prelude.{if◌then◌else◌}
+use Rattle.std.specs.Prelude.{if◌then◌else◌, Err, Ok}
 use Prim.Native.Nat.{ℕ, ◌+◌, ◌-◌, ◌*◌, ◌/◌, ◌%◌, ◌^◌, ◌<◌}
 use native.Mathlib.Omega.{arith}
 use mathlib.Core.Path.{◌≡◌, refl, sym, ap, ◌∙◌}
@@ -20,9 +20,7 @@ use Rattle.model.specs.declared.Register.{Register}
 use Rattle.model.specs.declared.Register.TheVariants.{Ctlr, Iidr, Typer, Cbaser, Cwriter, Creadr, Baser, Reserved}
 use Rattle.model.specs.declared.RegisterWrite.{RegisterWrite}
 use Rattle.model.specs.declared.Refusal.TheVariants.{Unsound, BaseZero, WriterRefused}
-use Rattle.model.specs.declared.ReadAnswer.TheVariants.{Value, NoValue}
-use Rattle.model.specs.declared.Verdict.{Verdict}
-use Rattle.model.specs.declared.Verdict.TheVariants.{Accepted, Refused}
+use Rattle.model.specs.Answer.{Verdict}
 use Rattle.model.specs.Choose.{◌or◌then◌}
 use Rattle.model.specs.Arm.{◌of◌, ◌in_place◌, ◌holding◌, without, low_half, high_half, CBASER_Valid, CWRITER_Retry, GITS_CTLR, GITS_IIDR, GITS_TYPER, GITS_CBASER, GITS_CWRITER, GITS_CREADR}
 use Rattle.model.specs.With.{with_writer, unit_stalled}
@@ -83,7 +81,7 @@ module _ (u : ItsState) (y : is_strict u.config.profile ≡ true) where
     same_value n at other = rw (not_writer u offset width value n at other)
 
     -- at CWRITER bit 0 of the merged value is that of the value, or none
-    merged_so : check_access k offset width ≡ Accepted → sound_ring r ≡ true → register_at offset ≡ Cwriter →
+    merged_so : check_access k offset width ≡ Ok tt → sound_ring r ≡ true → register_at offset ≡ Cwriter →
         offered k (value_written k r offset width value Cwriter) ≡ written_by (value_in01 u) offset width v Cwriter
     unfolding offered merged
     merged_so taken ring at = by_half (half k offset width taken at)
@@ -112,7 +110,7 @@ module _ (u : ItsState) (y : is_strict u.config.profile ≡ true) where
     at_table n written true = refl
     at_table n written false = refl
 
-    at_register : check_access k offset width ≡ Accepted → sound_ring r ≡ true → (n : Register) → register_at offset ≡ n →
+    at_register : check_access k offset width ≡ Ok tt → sound_ring r ≡ true → (n : Register) → register_at offset ≡ n →
         As (write_register k r (value_written k r offset width value n) n) (write_register_in01 r (written_by (value_in01 u) offset width v n) n)
     unfolding to_ctlr to_cbaser to_cwriter to_baser
     at_register taken ring Ctlr at = rw (same_value Ctlr at (λ e. never true refl (cc))) refl
@@ -134,10 +132,10 @@ module _ (u : ItsState) (y : is_strict u.config.profile ≡ true) where
       by_verdict : (d : Verdict) → check_write k r (length row) offset width ≡ d → (n : Register) → register_at offset ≡ n →
           As (if_accepted d (write_register k r (value_written k r offset width value n) n) (refusing r 0))
           (if_accepted d (write_register_in01 r (written_by (value_in01 u) offset width v n) n) (refusing r 0))
-      by_verdict Accepted c n at =
+      by_verdict (Ok _) c n at =
           let taken = checks_taken k r (length row) offset width c in
           at_register taken.access (and_right (sound_config k) _ taken.is_sound) n at
-      by_verdict (Refused why) c n at = refl
+      by_verdict (Err why) c n at = refl
 
       pub strict_stores : stores row u offset width value ≡ stored_stalled (stores_in01 row u offset width v) (stores row u offset width value).registers.stalled
       unfolding register_write check_write stores_in01
@@ -182,7 +180,7 @@ module _ (u : ItsState) (y : is_strict u.config.profile ≡ true) where
   unfolding read_from check_read read_in01
   strict_reads offset width out =
       rw (sizes_only k known)
-      (ap (λ z. if_accepted (sound_in01 k r or Refused Unsound then check_access k offset width) (Value (if is_wide (register_at offset) then read_part offset width z else z)) NoValue)
+      (ap (λ z. if_accepted (sound_in01 k r or Err Unsound then check_access k offset width) (Ok (if is_wide (register_at offset) then read_part offset width z else z)) Err)
       (other_value offset out (register_at offset) refl))
 
   pub strict_translates : (d : ItsDeviceId) (e : EventId) → translate u d e ≡ translate_in01 u d e

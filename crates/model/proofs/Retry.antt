@@ -1,6 +1,6 @@
 -- Retry (02, A4): where a write of CWRITER carries it. The register's low half does, by bit 0 of what is written; its high half never does.
 -- Assumes nothing.
-use Rattle.std.specs.Prelude.{if◌then◌else◌}
+use Rattle.std.specs.Prelude.{if◌then◌else◌, Ok}
 use Prim.Native.Nat.{ℕ, ◌+◌, ◌%◌, ◌≤◌, ◌<◌}
 use native.Mathlib.Omega.{arith}
 use mathlib.Core.Path.{◌≡◌, refl}
@@ -13,7 +13,6 @@ use Rattle.model.specs.declared.ItsRegisters.{ItsRegisters}
 use Rattle.model.specs.declared.Register.{Register}
 use Rattle.model.specs.declared.Register.TheVariants.{Ctlr, Iidr, Typer, Cbaser, Cwriter, Creadr, Baser, Reserved}
 use Rattle.model.specs.declared.Refusal.TheVariants.{Unsound, RowTooShort, InvalidAccess, Identification}
-use Rattle.model.specs.declared.Verdict.TheVariants.{Accepted}
 use Rattle.model.specs.Arm.{◌of◌, CWRITER_Retry, GITS_CTLR, GITS_IIDR, GITS_TYPER, GITS_CBASER, GITS_CWRITER, GITS_CREADR, is_identification}
 use Rattle.model.specs.Config.{sound_ring, sound}
 use Rattle.model.specs.Register.{lies_in, is_baser, register_at, takes_width, merged, value_written}
@@ -59,7 +58,7 @@ pub data Half (offset width : ℕ) : Type 0 where
   low : width ≡ 4 → offset ≡ GITS_CWRITER → Half offset width
   high : width ≡ 4 → offset ≡ 0x8C → Half offset width
 
-module _ (k : ItsConfig) (offset width : ℕ) (taken : check_access k offset width ≡ Accepted) (at : register_at offset ≡ Cwriter) where
+module _ (k : ItsConfig) (offset width : ℕ) (taken : check_access k offset width ≡ Ok tt) (at : register_at offset ≡ Cwriter) where
   pub half : Half offset width
   unfolding check_access
   half =
@@ -93,9 +92,9 @@ module _ (k : ItsConfig) (offset width : ℕ) (taken : check_access k offset wid
 pub record Taken (k : ItsConfig) (r : ItsRegisters) (room offset width : ℕ) : Type 0 where
   pub is_sound : sound k r ≡ true
   pub has_room : leb k.command_budget room ≡ true
-  pub access : check_access k offset width ≡ Accepted
+  pub access : check_access k offset width ≡ Ok tt
 
-pub checks_taken : (k : ItsConfig) (r : ItsRegisters) (room offset width : ℕ) → check_write k r room offset width ≡ Accepted → Taken k r room offset width
+pub checks_taken : (k : ItsConfig) (r : ItsRegisters) (room offset width : ℕ) → check_write k r room offset width ≡ Ok tt → Taken k r room offset width
 unfolding check_write
 checks_taken k r room offset width h =
     let (s, rest) = check_held (sound k r) Unsound _ h in

@@ -2,12 +2,12 @@
 -- accepted by the unit that met it; CREADR moves past exactly those, and nothing else of registers and configuration changes. Where it stopped,
 -- the command on which CREADR stands is refused.
 -- Assumes nothing.
+use Rattle.std.specs.Prelude.{None, Option, Some}
 use Prim.Native.Nat.{ℕ, zero, suc, ◌≤◌, ◌<◌}
 use native.Mathlib.Omega.{arith}
 use mathlib.Core.Path.{◌≡◌, refl, sym, ap, ap₂, ◌∙◌}
 use mathlib.Core.Bool.{true}
 use mathlib.Core.List.{List, [], ◌∷◌, ◌++◌, append-nil, append_assoc}
-use mathlib.Core.Option.{Option, none, some}
 use lib.ListN.{length, length-append}
 use Rattle.model.specs.declared.ItsState.{ItsState}
 use Rattle.model.specs.declared.ItsAction.{ItsAction}
@@ -32,15 +32,15 @@ module _ (w : Window) where
     pub config : r.unit.config ≡ u.config
     pub registers : r.unit.registers ≡ with_reader u.registers (ring_offset u.registers r.done)
     pub at_most : r.done ≤ n
-    pub all : r.stopped ≡ none → r.done ≡ n
+    pub all : r.stopped ≡ None → r.done ≡ n
     pub shown : length (commands_passed w u.registers r.done) ≡ r.done
     pub carried : CarriedOut u (commands_passed w u.registers r.done) r.actions r.unit
-    pub fewer : (s : Stop) → r.stopped ≡ some s → r.done < n
-    pub refused : (s : Stop) → r.stopped ≡ some s → turn w r.unit ≡ stays s.refusal s.opcode
+    pub fewer : (s : Stop) → r.stopped ≡ Some s → r.done < n
+    pub refused : (s : Stop) → r.stopped ≡ Some s → turn w r.unit ≡ stays s.refusal s.opcode
 
   -- the run ends here: all n commands are done, or the command at CREADR is refused
-  ended_keeps : (n : ℕ) (u : ItsState) (o : Option Stop) → Stands u → (o ≡ none → 0 ≡ n) → ((s : Stop) → o ≡ some s → 0 < n) →
-      ((s : Stop) → o ≡ some s → turn w u ≡ stays s.refusal s.opcode) → RunKeeps n u (ended u o)
+  ended_keeps : (n : ℕ) (u : ItsState) (o : Option Stop) → Stands u → (o ≡ None → 0 ≡ n) → ((s : Stop) → o ≡ Some s → 0 < n) →
+      ((s : Stop) → o ≡ Some s → turn w u ≡ stays s.refusal s.opcode) → RunKeeps n u (ended u o)
   ended_keeps n u o b all fewer refused =
       record {
         config = refl;
@@ -75,9 +75,9 @@ module _ (w : Window) where
         refused = k.refused;
       }
   step n u (stays r opcode) t b rest =
-      ended_keeps (suc n) u (some (record { refusal = r; opcode = opcode })) b (λ s. never true refl (cc)) (λ s h. omega arith)
+      ended_keeps (suc n) u (Some (record { refusal = r; opcode = opcode })) b (λ s. never true refl (cc)) (λ s h. omega arith)
       (λ s h. let same : record { refusal = r; opcode = opcode } ≡ s = cc in t ∙ ap (λ z. stays z.refusal z.opcode) same)
 
   pub run_keeps : (n : ℕ) (u : ItsState) → Stands u → RunKeeps n u (run w n u)
-  run_keeps zero u b = ended_keeps zero u none b (λ s. refl) (λ s h. never true refl (cc)) (λ s h. never true refl (cc))
+  run_keeps zero u b = ended_keeps zero u None b (λ s. refl) (λ s h. never true refl (cc)) (λ s h. never true refl (cc))
   run_keeps (suc n) u b = step n u (turn w u) refl b (run_keeps n)

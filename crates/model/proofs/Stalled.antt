@@ -1,13 +1,12 @@
 -- What a write does to Stalled (02, A4). What it stores leaves the bit, but for the two that clear it in strict; a run that a command stopped sets it there;
 -- and base never writes it.
 -- Assumes nothing.
-use Rattle.std.specs.Prelude.{if◌then◌else◌}
+use Rattle.std.specs.Prelude.{if◌then◌else◌, Err, None, Ok, Option, Some, is_ok}
 use Prim.Native.Nat.{ℕ, ◌+◌}
 use native.Mathlib.Omega.{arith}
 use mathlib.Core.Path.{◌≡◌, refl, sym, ap, ap₂, ◌∙◌}
 use mathlib.Core.Bool.{Bool, true, false, ◌&&◌, ◌||◌, not}
 use mathlib.Core.List.{List}
-use mathlib.Core.Option.{Option, none, some}
 use lib.ListN.{length}
 use lib.Dec.{leb, eqb}
 use borrow.Author.Tests.{eqb-true, ne_eqb, leb-true, le-ltb}
@@ -20,10 +19,7 @@ use Rattle.model.specs.declared.Register.TheVariants.{Ctlr, Iidr, Typer, Cbaser,
 use Rattle.model.specs.declared.RegisterWrite.{RegisterWrite}
 use Rattle.model.specs.declared.Refusal.{Refusal}
 use Rattle.model.specs.declared.Refusal.TheVariants.{BaseZero, WriterRefused}
-use Rattle.model.specs.declared.WriteAnswer.{WriteAnswer}
-use Rattle.model.specs.declared.WriteAnswer.TheVariants.{Taken, NotTaken}
-use Rattle.model.specs.declared.Verdict.{Verdict}
-use Rattle.model.specs.declared.Verdict.TheVariants.{Accepted, Refused}
+use Rattle.model.specs.Answer.{Verdict, WriteAnswer}
 use Rattle.model.specs.Choose.{◌or◌then◌, if_found}
 use Rattle.model.specs.Arm.{◌of◌, CWRITER_Retry, GITS_CTLR, GITS_IIDR, GITS_TYPER, GITS_CBASER, GITS_CWRITER, GITS_CREADR}
 use Rattle.model.specs.With.{with_writer, with_registers}
@@ -32,7 +28,7 @@ use Rattle.model.specs.Config.{queue_base, sound_config, sound_ring}
 use Rattle.model.specs.Queue.{Window, Stop, Ran, run, stall, halting}
 use Rattle.model.specs.Register.{lies_in, is_baser, register_at, value_written}
 use Rattle.model.specs.Access.{check_access, check_write, if_accepted}
-use Rattle.model.specs.Writing.{refusing, storing, rebasing, going, clearing, with_cbaser, to_ctlr, to_cbaser, retries, writer_accepted, writer_of, to_cwriter, with_baser, to_baser, write_register, register_write}
+use Rattle.model.specs.Writing.{refusing, storing, rebasing, going, clearing, with_cbaser, to_ctlr, to_cbaser, retries, writer_accepted, writer_of, to_cwriter, with_baser, to_baser, write_register, register_write, then_runs}
 use Rattle.model.specs.Entry.{stores}
 use Rattle.model.proofs.Cases.{cases, never, and_left, and_right}
 use Rattle.model.proofs.Retry.{elsewhere, retry_of, checks_taken}
@@ -40,16 +36,16 @@ use Rattle.model.proofs.Profiles.{off_and}
 
 -- what is stored clears Stalled, in strict: a new base, or a writer with Retry
 abbrev pub clears : RegisterWrite → ℕ → ℕ → Bool
-clears s offset value = s.rebased || (s.runs && (eqb offset GITS_CWRITER && eqb (CWRITER_Retry of value) 1))
+clears s offset value = s.rebased || (then_runs s && (eqb offset GITS_CWRITER && eqb (CWRITER_Retry of value) 1))
 
 -- the bit after such a write
 abbrev pub leaves : Bool → Bool → Bool → Bool
 leaves strict clear stalled = not (strict && clear) && stalled
 
 -- the write is stored, or ignored: not refused at the entry
-abbrev pub is_taken : WriteAnswer → Bool
-is_taken (Taken done actions) = true
-is_taken (NotTaken why opcode offset done actions) = false
+abbrev pub is_taken : Option WriteAnswer → Bool
+is_taken None = true
+is_taken (Some a) = is_ok a
 
 -- where CBASER stands
 module _ (offset : ℕ) where
@@ -116,14 +112,14 @@ module _ (u : ItsState) (offset width value : ℕ) where
   to_writer writer true retry e = ap (λ c. not c && r.stalled) e
   to_writer writer false retry e = same (refusing r writer WriterRefused) refl refl
 
-  with_retry_lem : check_access k offset width ≡ Accepted → sound_ring r ≡ true → register_at offset ≡ Cwriter →
+  with_retry_lem : check_access k offset width ≡ Ok tt → sound_ring r ≡ true → register_at offset ≡ Cwriter →
       retries k (value_written k r offset width value Cwriter) ≡ (strict && (eqb offset GITS_CWRITER && eqb (CWRITER_Retry of value) 1))
   unfolding retries
   with_retry_lem taken ring at =
       ap (λ n. strict && eqb n 1) (retry_of k offset width taken at r ring value)
       ∙ cases (eqb offset GITS_CWRITER) (λ y. rw y) (λ n. rw n)
 
-  to_register : check_access k offset width ≡ Accepted → sound_ring r ≡ true → (n : Register) → register_at offset ≡ n → Left (write_register k r (value_written k r offset width value n) n)
+  to_register : check_access k offset width ≡ Ok tt → sound_ring r ≡ true → (n : Register) → register_at offset ≡ n → Left (write_register k r (value_written k r offset width value n) n)
   unfolding to_ctlr to_cbaser to_cwriter to_baser
   to_register taken ring Ctlr at = same (to_ctlr r value) refl (rw (not_writer Ctlr at (λ e. never true refl (cc))))
   to_register taken ring Iidr at = same (storing r) refl refl
@@ -139,10 +135,10 @@ module _ (u : ItsState) (offset width value : ℕ) where
   module _ (row : List ItsAction) where
     by_verdict : (v : Verdict) → check_write k r (length row) offset width ≡ v → (n : Register) → register_at offset ≡ n →
         Left (if_accepted v (write_register k r (value_written k r offset width value n) n) (refusing r 0))
-    by_verdict Accepted c n at =
+    by_verdict (Ok _) c n at =
         let taken = checks_taken k r (length row) offset width c in
         to_register taken.access (and_right (sound_config k) _ taken.is_sound) n at
-    by_verdict (Refused why) c n at = same (refusing r 0 why) refl refl
+    by_verdict (Err why) c n at = same (refusing r 0 why) refl refl
 
     -- WHAT A WRITE STORES
     pub stored_stalled_lem : Left (stores row u offset width value)
@@ -164,7 +160,7 @@ module _ (u : ItsState) (offset width value : ℕ) where
   -- at another register
   module _ (n : Register) (at : register_at offset ≡ n) (writer : n ≡ Cwriter → ⊥) (base : n ≡ Cbaser → ⊥) where
     other : (s : RegisterWrite) → s.rebased ≡ false → Told s
-    other s e = rw (not_writer u offset width value n at writer, not_base offset n at base, e, off_and s.runs, off_and (is_taken s.answer))
+    other s e = rw (not_writer u offset width value n at writer, not_base offset n at base, e, off_and (then_runs s), off_and (is_taken s.answer))
 
   told_refused : (at : ℕ) (why : Refusal) → Told (refusing u.registers at why)
   told_refused at why = refl
@@ -209,8 +205,8 @@ module _ (u : ItsState) (offset width value : ℕ) where
   module _ (row : List ItsAction) where
     told_by_verdict : (v : Verdict) (n : Register) → register_at offset ≡ n →
         Told (if_accepted v (write_register u.config u.registers (value_written u.config u.registers offset width value n) n) (refusing u.registers 0))
-    told_by_verdict Accepted n at = told_at_register n at
-    told_by_verdict (Refused why) n at = told_refused 0 why
+    told_by_verdict (Ok _) n at = told_at_register n at
+    told_by_verdict (Err why) n at = told_refused 0 why
 
     pub clears_when : Told (stores row u offset width value)
     unfolding register_write

@@ -1,10 +1,10 @@
 -- A command that stays is never refused with 1 or 5: no check of a command answers one of these.
 -- Assumes nothing.
+use Rattle.std.specs.Prelude.{Err, None, Ok, Option, Some}
 use Prim.Native.Nat.{ℕ}
 use mathlib.Core.Path.{◌≡◌, refl, subst}
 use mathlib.Core.Bool.{Bool, true, false, ◌&&◌, not}
 use mathlib.Core.List.{List}
-use mathlib.Core.Option.{Option, none, some}
 use lib.Dec.{eqb}
 use Rattle.model.specs.declared.ItsDeviceId.{ItsDeviceId}
 use Rattle.model.specs.declared.EventId.{EventId}
@@ -13,12 +13,9 @@ use Rattle.model.specs.declared.LpiId.{LpiId}
 use Rattle.model.specs.declared.ItsState.{ItsState}
 use Rattle.model.specs.declared.Command.{Command}
 use Rattle.model.specs.declared.Command.TheVariants.{Mapd, Mapc, Mapti, Mapi, Movi, Int, Clear, Discard, Inv, Invall, Sync}
-use Rattle.model.specs.declared.Decoded.{Decoded}
-use Rattle.model.specs.declared.Decoded.TheVariants.{Known, Unknown}
 use Rattle.model.specs.declared.Refusal.{Refusal}
 use Rattle.model.specs.declared.Refusal.TheVariants.{NotInWindow, LpiOutOfRange, DeviceUnmapped, EventBeyondBits, CollectionUnmapped, PairUnmapped, ProcessorUnlisted, DeviceTooLarge, ResourceNotFound, TableFull}
-use Rattle.model.specs.declared.Verdict.{Verdict}
-use Rattle.model.specs.declared.Verdict.TheVariants.{Accepted, Refused}
+use Rattle.model.specs.Answer.{Decoded, Verdict}
 use Rattle.model.specs.Choose.{◌or◌then◌, if_found}
 use Rattle.model.specs.Refusal.{verdict_number}
 use Rattle.model.specs.Keys.{event_as_lpi}
@@ -32,7 +29,7 @@ abbrev pub apart : Verdict → Bool
 apart v = not (eqb (verdict_number v) 1) && not (eqb (verdict_number v) 5)
 
 -- a check with such a refusal, and others after it
-pub check_apart : (b : Bool) (r : Refusal) (k : Verdict) → apart (Refused r) ≡ true → apart k ≡ true → apart (b or Refused r then k) ≡ true
+pub check_apart : (b : Bool) (r : Refusal) (k : Verdict) → apart (Err r) ≡ true → apart k ≡ true → apart (b or Err r then k) ≡ true
 check_apart true r k h i = i
 check_apart false r k h i = h
 
@@ -68,20 +65,20 @@ module _ (u : ItsState) where
 
   abbrev Stays : Turn → Type 0
   Stays (passes x) = Unit {0}
-  Stays (stays r opcode) = apart (Refused r) ≡ true
+  Stays (stays r opcode) = apart (Err r) ≡ true
 
   stays_verdict : (v : Verdict) (x : Command) (opcode : ℕ) → apart v ≡ true → Stays (judged v x opcode)
-  stays_verdict Accepted x opcode h = tt
-  stays_verdict (Refused r) x opcode h = h
+  stays_verdict (Ok _) x opcode h = tt
+  stays_verdict (Err r) x opcode h = h
 
   stays_decoded : (k : Decoded) (opcode : ℕ) → Stays (turn_on u opcode k)
-  stays_decoded (Known x) opcode = stays_verdict (check u x) x opcode (command_apart x)
-  stays_decoded (Unknown n) opcode = refl
+  stays_decoded (Ok x) opcode = stays_verdict (check u x) x opcode (command_apart x)
+  stays_decoded (Err n) opcode = refl
 
   stays_words : (o : Option (List ℕ)) → Stays (if_found o (λ ws. turn_on u (opcode_of ws) (decode ws)) (stays NotInWindow 0))
-  stays_words none = refl
-  stays_words (some ws) = stays_decoded (decode ws) (opcode_of ws)
+  stays_words None = refl
+  stays_words (Some ws) = stays_decoded (decode ws) (opcode_of ws)
 
-  pub staying : (w : Window) (r : Refusal) (opcode : ℕ) → turn w u ≡ stays r opcode → apart (Refused r) ≡ true
+  pub staying : (w : Window) (r : Refusal) (opcode : ℕ) → turn w u ≡ stays r opcode → apart (Err r) ≡ true
   unfolding turn
   staying w r opcode h = subst Stays h (stays_words (command_at w (command_address u.registers u.registers.creadr)))

@@ -1,17 +1,18 @@
 -- The laws of finding, storing and dropping, each proved once, for a table of any size, any record and any test of a key.
 -- Assumes nothing.
-use Rattle.std.specs.Prelude.{if◌then◌else◌}
+use Rattle.std.specs.Prelude.{if◌then◌else◌, None, Option, Some}
 use Prim.Native.Nat.{ℕ, zero, suc, ◌≤◌, ◌<◌}
 use native.Mathlib.Omega.{arith}
 use mathlib.Core.Path.{◌≡◌, refl, sym, ap, ◌∙◌, fun_ext}
 use mathlib.Core.Bool.{Bool, true, false, not}
 use mathlib.Core.List.{List, [], ◌∷◌}
-use mathlib.Core.Option.{Option, none, some}
 use lib.ListN.{length, get_or, set, length-set}
 use lib.Dec.{ltb, leb-suc-suc}
 use borrow.Author.Tests.{ltb-true, ltb-false, lt-ltb, le-ltb, not-true}
 use Rattle.model.specs.Choose.{is_found}
-use Rattle.model.specs.Table.{first_at, look, place, room, store, drop_all}
+use Rattle.std.specs.List.{position}
+use Rattle.std.proofs.lemmas.List.Recursion.{is_position_or_len}
+use Rattle.model.specs.Table.{first_at, among, look, place, room, store, drop_all}
 use Rattle.model.proofs.Cases.{cases, never}
 
 module _ {A : Type 0} where
@@ -20,6 +21,10 @@ module _ {A : Type 0} where
   pub first_at_le : (p : A → Bool) (rs : List A) → first_at p rs ≤ length rs
   first_at_le p [] = omega arith
   first_at_le p (r ∷ rs) = cases (p r) (λ e. rw e (omega arith)) (λ e. rw e (omega (arith, first_at_le p rs)))
+
+  -- what an iterator's `position` gives is the place of the first that passes
+  pub position_is : (p : A → Bool) (rs : List A) → position p rs ≡ among rs (first_at p rs)
+  position_is p rs = ap (among rs) (sym (is_position_or_len (first_at p) p refl (λ r l. ap (λ n. if p r then 0 else n) (omega arith)) rs))
 
   -- the record that is found passes, and those before it do not: it is the lowest. It is what a look finds
   pub first_at_passes : (p : A → Bool) (rs : List A) (d : A) → first_at p rs < length rs → p (get_or rs (first_at p rs) d) ≡ true
@@ -31,12 +36,12 @@ module _ {A : Type 0} where
   first_at_lowest p (r ∷ rs) d zero h = cases (p r) (λ e. absurd (omega (arith, rw e at h))) (λ e. e)
   first_at_lowest p (r ∷ rs) d (suc k) h = cases (p r) (λ e. absurd (omega (arith, rw e at h))) (λ e. first_at_lowest p rs d k (omega (arith, rw e at h)))
 
-  pub look_at : (p : A → Bool) (rs : List A) (d : A) → first_at p rs < length rs → look p rs ≡ some (get_or rs (first_at p rs) d)
+  pub look_at : (p : A → Bool) (rs : List A) (d : A) → first_at p rs < length rs → look p rs ≡ Some (get_or rs (first_at p rs) d)
   look_at p [] d h = absurd (omega arith)
   look_at p (r ∷ rs) d h = cases (p r) (λ e. rw e) (λ e. rw e (look_at p rs d (omega (arith, rw e at h))))
 
   -- where none is found, none passes
-  pub look_none : (p : A → Bool) (rs : List A) → length rs ≤ first_at p rs → look p rs ≡ none
+  pub look_none : (p : A → Bool) (rs : List A) → length rs ≤ first_at p rs → look p rs ≡ None
   look_none p [] h = refl
   look_none p (r ∷ rs) h = cases (p r) (λ e. absurd (omega (arith, rw e at h))) (λ e. rw e (look_none p rs (omega (arith, rw e at h))))
 
@@ -46,14 +51,14 @@ module _ {A : Type 0} where
   found_is p (r ∷ rs) = cases (p r) (λ e. rw e (sym (lt-ltb 0 (suc (length rs)) (omega arith)))) (λ e. rw e (found_is p rs ∙ sym (leb-suc-suc (suc (first_at p rs)) (length rs))))
 
   -- what a look finds passes
-  pub look_passes : (p : A → Bool) (rs : List A) {a : A} → look p rs ≡ some a → p a ≡ true
+  pub look_passes : (p : A → Bool) (rs : List A) {a : A} → look p rs ≡ Some a → p a ≡ true
   look_passes p [] h = never true refl (cc)
   look_passes p (r ∷ rs) {a} h =
-      cases (p r) (λ e. let h' : ◌≡◌ {A = Option A} (some r) (some a) = rw e at h in let k : r ≡ a = cc in rw (← k) e)
+      cases (p r) (λ e. let h' : ◌≡◌ {A = Option A} (Some r) (Some a) = rw e at h in let k : r ≡ a = cc in rw (← k) e)
       (λ e. look_passes p rs (rw e at h))
 
   -- a look that finds has a place to find at
-  pub look_found : (p : A → Bool) (rs : List A) {a : A} → look p rs ≡ some a → first_at p rs < length rs
+  pub look_found : (p : A → Bool) (rs : List A) {a : A} → look p rs ≡ Some a → first_at p rs < length rs
   look_found p rs {a} s =
       cases (ltb (first_at p rs) (length rs)) (λ e. ltb-true _ _ e)
       (λ e. let n = look_none p rs (ltb-false (first_at p rs) (length rs) e) in never true refl (cc))
@@ -67,7 +72,7 @@ module _ {A : Type 0} where
   set_beyond (r ∷ rs) (suc i) a h = ap (λ l. r ∷ l) (set_beyond rs i a (omega arith))
 
   -- a record that passes, at no later place than the first that did, is what is found
-  pub look_set_here : (p : A → Bool) (rs : List A) (j : ℕ) (a : A) → j < length rs → j ≤ first_at p rs → p a ≡ true → look p (set rs j a) ≡ some a
+  pub look_set_here : (p : A → Bool) (rs : List A) (j : ℕ) (a : A) → j < length rs → j ≤ first_at p rs → p a ≡ true → look p (set rs j a) ≡ Some a
   look_set_here p [] j a h l t = absurd (omega arith)
   look_set_here p (r ∷ rs) zero a h l t = rw t
   look_set_here p (r ∷ rs) (suc j) a h l t =
@@ -77,7 +82,7 @@ module _ {A : Type 0} where
   pub look_set_other : (p : A → Bool) (rs : List A) (j : ℕ) (a d : A) → p (get_or rs j d) ≡ false → p a ≡ false → look p (set rs j a) ≡ look p rs
   look_set_other p [] j a d h k = refl
   look_set_other p (r ∷ rs) zero a d h k = rw (h, k)
-  look_set_other p (r ∷ rs) (suc j) a d h k = ap (λ o. if p r then some r else o) (look_set_other p rs j a d h k)
+  look_set_other p (r ∷ rs) (suc j) a d h k = ap (λ o. if p r then Some r else o) (look_set_other p rs j a d h k)
 
   -- Storing.
 
@@ -137,7 +142,7 @@ module _ {A : Type 0} where
     other_test e b k = cases (q b) (λ l. never (q a) (sym (keys b a k l) ∙ new) e) (λ l. l)
 
     -- what is found after a store: under the key the new record, under any other what was found before
-    pub look_store : look q (store p used a rs) ≡ (if q a then some a else look q rs)
+    pub look_store : look q (store p used a rs) ≡ (if q a then Some a else look q rs)
     unfolding store
     look_store =
         let at = room_place p used rs fits in
@@ -164,7 +169,7 @@ module _ {A : Type 0} where
 
   -- where the key says whether its records are dropped, as a device number says of a pair, and the pair's counting record of its collection
   module _ (p q : A → Bool) (empty : A) (none_there : q empty ≡ false) where
-    pub look_drop : (rs : List A) (b : Bool) → ((a : A) → q a ≡ true → p a ≡ b) → look q (drop_all p empty rs) ≡ (if b then none else look q rs)
+    pub look_drop : (rs : List A) (b : Bool) → ((a : A) → q a ≡ true → p a ≡ b) → look q (drop_all p empty rs) ≡ (if b then None else look q rs)
     look_drop [] b h = cases b (λ e. rw e) (λ e. rw e)
     look_drop (r ∷ rs) b h =
         cases (q r)

@@ -1,19 +1,16 @@
 -- One turn of the queue: a command that passes is the one that the window shows at CREADR, and the unit accepted it; to carry it out moves CREADR
 -- on and touches no other register.
 -- Assumes nothing.
+use Rattle.std.specs.Prelude.{Err, None, Ok, Option, Some}
 use Prim.Native.Nat.{ℕ, zero, suc, ◌+◌, ◌*◌, ◌%◌, ◌<◌}
 use mathlib.Core.Path.{◌≡◌, refl, sym, ap, ap₂}
 use mathlib.Core.Bool.{true}
 use mathlib.Core.List.{List, ◌++◌, append-nil, append_assoc}
-use mathlib.Core.Option.{Option, none, some}
 use Rattle.model.specs.declared.ItsRegisters.{ItsRegisters}
 use Rattle.model.specs.declared.ItsState.{ItsState}
 use Rattle.model.specs.declared.Command.{Command}
-use Rattle.model.specs.declared.Decoded.{Decoded}
-use Rattle.model.specs.declared.Decoded.TheVariants.{Known, Unknown}
 use Rattle.model.specs.declared.Refusal.TheVariants.{NotInWindow}
-use Rattle.model.specs.declared.Verdict.{Verdict}
-use Rattle.model.specs.declared.Verdict.TheVariants.{Accepted, Refused}
+use Rattle.model.specs.Answer.{Decoded, Verdict}
 use Rattle.model.specs.Choose.{when_found, if_found, list_of}
 use Rattle.model.specs.Arm.{command_size}
 use Rattle.model.specs.Config.{queue_base, queue_size}
@@ -30,20 +27,20 @@ use Rattle.model.proofs.Ring.{offset_here, offset_next}
 module _ (u : ItsState) (x : Command) where
   -- what the window shows and the unit accepted
   pub record Passes (o : Option Command) : Type 0 where
-    pub shown : o ≡ some x
+    pub shown : o ≡ Some x
     pub accepted : accepts u x ≡ true
 
-  on_verdict : (v : Verdict) (y : Command) (opcode : ℕ) → check u y ≡ v → judged v y opcode ≡ passes x → Passes (some y)
-  on_verdict Accepted y opcode c h = let same : y ≡ x = cc in record { shown = ap some same; accepted = rw (← same) (ap is_accepted c) }
-  on_verdict (Refused r) y opcode c h = never true refl (cc)
+  on_verdict : (v : Verdict) (y : Command) (opcode : ℕ) → check u y ≡ v → judged v y opcode ≡ passes x → Passes (Some y)
+  on_verdict (Ok _) y opcode c h = let same : y ≡ x = cc in record { shown = ap Some same; accepted = rw (← same) (ap is_accepted c) }
+  on_verdict (Err r) y opcode c h = never true refl (cc)
 
   on_decoded : (k : Decoded) (opcode : ℕ) → turn_on u opcode k ≡ passes x → Passes (if_known k)
-  on_decoded (Known y) opcode h = on_verdict (check u y) y opcode refl h
-  on_decoded (Unknown n) opcode h = never true refl (cc)
+  on_decoded (Ok y) opcode h = on_verdict (check u y) y opcode refl h
+  on_decoded (Err n) opcode h = never true refl (cc)
 
   pub on_words : (o : Option (List ℕ)) → if_found o (λ ws. turn_on u (opcode_of ws) (decode ws)) (stays NotInWindow 0) ≡ passes x → Passes (when_found o (λ ws. if_known (decode ws)))
-  on_words none h = never true refl (cc)
-  on_words (some ws) h = on_decoded (decode ws) (opcode_of ws) h
+  on_words None h = never true refl (cc)
+  on_words (Some ws) h = on_decoded (decode ws) (opcode_of ws) h
 
   pub passing : (w : Window) → u.registers.creadr < queue_size u.registers.cbaser → turn w u ≡ passes x → Passes (command_of w u.registers 0)
   unfolding turn command_of

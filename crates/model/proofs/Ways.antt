@@ -2,7 +2,7 @@
 -- over its budget, or runs what waits. Every write goes one of them; and on a sound unit each does what a run of some number of the waiting
 -- commands does, or of none.
 -- Assumes nothing.
-use Rattle.std.specs.Prelude.{if◌then◌else◌}
+use Rattle.std.specs.Prelude.{if◌then◌else◌, Err, Ok}
 use Prim.Native.Nat.{ℕ, ◌≤◌, ◌<◌}
 use native.Mathlib.Omega.{arith}
 use mathlib.Core.Path.{◌≡◌, refl, sym, ap, ◌∙◌, subst}
@@ -19,9 +19,7 @@ use Rattle.model.specs.declared.Register.TheVariants.{Ctlr, Iidr, Typer, Cbaser,
 use Rattle.model.specs.declared.RegisterWrite.{RegisterWrite}
 use Rattle.model.specs.declared.Refusal.{Refusal}
 use Rattle.model.specs.declared.Refusal.TheVariants.{Unsound, RowTooShort, BaseZero, WriterRefused, BudgetExceeded}
-use Rattle.model.specs.declared.Verdict.{Verdict}
-use Rattle.model.specs.declared.Verdict.TheVariants.{Accepted, Refused}
-use Rattle.model.specs.declared.WriteAnswer.TheVariants.{NotTaken}
+use Rattle.model.specs.Answer.{Verdict, WriteAnswer, write_refused, write_taken}
 use Rattle.model.specs.Profile.{is_strict}
 use Rattle.model.specs.Choose.{◌or◌then◌}
 use Rattle.model.specs.Refusal.{write_numbers}
@@ -30,7 +28,7 @@ use Rattle.model.specs.Config.{queue_base, sound_config, sound_ring, sound_unit}
 use Rattle.model.specs.Queue.{Window, waiting, Ran, run, halting, may_run}
 use Rattle.model.specs.Register.{register_at, value_written}
 use Rattle.model.specs.Access.{check_write, if_accepted}
-use Rattle.model.specs.Writing.{refusing, storing, rebasing, going, enables, to_ctlr, clearing, with_cbaser, to_cbaser, retries, writer_accepted, writer_of, to_cwriter, with_baser, to_baser, write_register, register_write}
+use Rattle.model.specs.Writing.{refusing, storing, rebasing, going, enables, to_ctlr, clearing, with_cbaser, to_cbaser, retries, writer_accepted, writer_of, to_cwriter, with_baser, to_baser, write_register, register_write, then_runs}
 use Rattle.model.specs.Entry.{Outcome, row_after, after_run, running, concluded, stores, write}
 use Rattle.model.proofs.Cases.{cases, never, and_left, and_right, both, check_held}
 use Rattle.model.proofs.Ring.{reader_below}
@@ -52,28 +50,28 @@ module _ (w : Window) (row : List ItsAction) (u : ItsState) (offset width value 
     pub room : u.config.command_budget ≤ length row
 
   -- unit and answer where nothing runs
-  abbrev nothing_run : RegisterWrite → Outcome
-  nothing_run s = record { written = record { unit = with_registers u s.registers; answer = s.answer }; row = row }
+  abbrev nothing_run : ItsRegisters → WriteAnswer → Outcome
+  nothing_run s a = record { written = record { unit = with_registers u s; answer = a }; row = row }
 
   -- what the write does to the registers, and the outcome
   pub data Way : RegisterWrite → Outcome → Type 0 where
     -- 1, 10, 2, 3
-    checked : (why : Refusal) → check_write u.config u.registers (length row) offset width ≡ Refused why →
-        Way (refusing u.registers 0 why) (nothing_run (refusing u.registers 0 why))
+    checked : (why : Refusal) → check_write u.config u.registers (length row) offset width ≡ Err why →
+        Way (refusing u.registers 0 why) (nothing_run u.registers (write_refused why 0 0 0 0))
     -- 4
-    no_base : sound_unit u ≡ true → Way (refusing u.registers 0 BaseZero) (nothing_run (refusing u.registers 0 BaseZero))
+    no_base : sound_unit u ≡ true → Way (refusing u.registers 0 BaseZero) (nothing_run u.registers (write_refused BaseZero 0 0 0 0))
     -- 7 at CWRITER
     no_writer : sound_unit u ≡ true → register_at offset ≡ Cwriter →
-        Way (refusing u.registers (writer_by u offset width value) WriterRefused) (nothing_run (refusing u.registers (writer_by u offset width value) WriterRefused))
+        Way (refusing u.registers (writer_by u offset width value) WriterRefused) (nothing_run u.registers (write_refused WriterRefused 0 (writer_by u offset width value) 0 0))
     -- stored, or ignored, and nothing runs
-    quiet : (s : ItsRegisters) → Stored s → Way (storing s) (nothing_run (storing s))
+    quiet : (s : ItsRegisters) → Stored s → Way (storing s) (nothing_run s (write_taken 0 0))
     -- a new base, and nothing runs
-    based : (s : ItsRegisters) → sound_config u.config ≡ true → sound_ring s ≡ true → s.creadr ≡ 0 → Way (rebasing s) (nothing_run (rebasing s))
+    based : (s : ItsRegisters) → sound_config u.config ≡ true → sound_ring s ≡ true → s.creadr ≡ 0 → Way (rebasing s) (nothing_run s (write_taken 0 0))
     -- let run, and the queue may not: the unit is disabled, or in strict CBASER's bit 63 is clear or the unit stalled
-    off : (s : ItsRegisters) → Stored s → may_run u.config s ≡ false → Way (going s) (nothing_run (going s))
+    off : (s : ItsRegisters) → Stored s → may_run u.config s ≡ false → Way (going s) (nothing_run s (write_taken 0 0))
     -- more wait than the budget
     over : (s : ItsRegisters) → Stored s → may_run u.config s ≡ true → u.config.command_budget < waiting s →
-        Way (going s) (record { written = record { unit = with_registers u s; answer = NotTaken BudgetExceeded 0 s.creadr 0 0 }; row = row })
+        Way (going s) (record { written = record { unit = with_registers u s; answer = write_refused BudgetExceeded 0 s.creadr 0 0 }; row = row })
     -- what waits is run
     ran : (s : ItsRegisters) → Stored s → may_run u.config s ≡ true → waiting s ≤ u.config.command_budget →
         Way (going s) (after_run (halting (run w (waiting s) (with_registers u s))) row)
@@ -148,11 +146,11 @@ module _ (w : Window) (row : List ItsAction) (u : ItsState) (offset width value 
       Way (if_accepted v (write_register u.config u.registers (value_written u.config u.registers offset width value n) n) (refusing u.registers 0))
       (concluded w row u (if_accepted v (write_register u.config u.registers (value_written u.config u.registers offset width value n) n) (refusing u.registers 0)))
   unfolding check_write
-  by_verdict Accepted c n at =
+  by_verdict (Ok _) c n at =
       let (sound, rest) = check_held (sound_unit u) Unsound _ c in
       let (room, access) = check_held (leb u.config.command_budget (length row)) RowTooShort _ rest in
       to_register sound (leb-true _ _ room) n at
-  by_verdict (Refused why) c n at = checked why c
+  by_verdict (Err why) c n at = checked why c
 
   pub way : Way (stores row u offset width value) (write w row u offset width value)
   unfolding write register_write
@@ -179,7 +177,7 @@ module _ (w : Window) (row : List ItsAction) (u : ItsState) (offset width value 
   -- no command is run
   none_run : (s : ItsRegisters) (o : Outcome) → s.cbaser ≡ u.registers.cbaser → s.creadr ≡ u.registers.creadr → sound_ring s ≡ true →
       o.written.unit ≡ unit_stalled (with_registers u s) o.written.unit.registers.stalled → (write_numbers o.written.answer).done ≡ 0 → o.row ≡ row →
-      {runs : Bool} {a : _} → AsRun (record { registers = s; rebased = false; runs = runs; answer = a }) o
+      {a : _} → AsRun (record { registers = s; rebased = false; answer = a }) o
   none_run s o b c k v d l =
       record {
         n = 0;
@@ -254,7 +252,7 @@ module _ (w : Window) (row : List ItsAction) (u : ItsState) (offset width value 
         (both (sound_config u.config) _ (and_left _ _ sound) (reader_sound s.registers a.ring ran_by.done fewer))
 
 -- Where the queue is let run, unit and ring are sound with the value stored, and the row has room for the budget.
-pub runs_ready : (u : ItsState) (room offset width value : ℕ) → (register_write u.config u.registers room offset width value).runs ≡ true →
+pub runs_ready : (u : ItsState) (room offset width value : ℕ) → then_runs (register_write u.config u.registers room offset width value) ≡ true →
     (sound_unit (with_registers u (register_write u.config u.registers room offset width value).registers) ≡ true) × (u.config.command_budget ≤ room)
 runs_ready u room offset width value h =
     let row : List ItsAction = replicate room (record { target = record { 0 = 0 }; lpi = record { 0 = 0 }; pending = false }) in
@@ -264,7 +262,7 @@ runs_ready u room offset width value h =
     nowhere : Window
     nowhere = record { address = 0; bytes = [] }
 
-    by_way : (row : List ItsAction) → length row ≡ room → {s : RegisterWrite} {o : Outcome} → Way nowhere row u offset width value s o → s.runs ≡ true →
+    by_way : (row : List ItsAction) → length row ≡ room → {s : RegisterWrite} {o : Outcome} → Way nowhere row u offset width value s o → then_runs s ≡ true →
         (sound_unit (with_registers u s.registers) ≡ true) × (u.config.command_budget ≤ room)
     by_way row long (checked why c) h = never true refl (sym h)
     by_way row long (no_base sound) h = never true refl (sym h)

@@ -1,12 +1,11 @@
 -- Document 01, "Refusal numbers": which accesses are taken, and the order of their refusals.
 -- Assumes nothing.
-use Rattle.std.specs.Prelude.{ℕ, ◌+◌, ◌%◌, Bool, ◌&&◌, ◌||◌, not, leb, eqb}
+use Rattle.std.specs.Prelude.{ℕ, ◌+◌, ◌%◌, Bool, ◌&&◌, ◌||◌, not, leb, eqb, Err, Ok}
 use Rattle.model.specs.declared.ItsConfig.{ItsConfig}
 use Rattle.model.specs.declared.ItsRegisters.{ItsRegisters}
 use Rattle.model.specs.declared.Refusal.{Refusal}
 use Rattle.model.specs.declared.Refusal.TheVariants.{Unsound, RowTooShort, InvalidAccess, Identification}
-use Rattle.model.specs.declared.Verdict.{Verdict}
-use Rattle.model.specs.declared.Verdict.TheVariants.{Accepted, Refused}
+use Rattle.model.specs.Answer.{Verdict}
 use Rattle.model.specs.Choose.{◌or◌then◌}
 use Rattle.model.specs.Arm.{is_identification}
 use Rattle.model.specs.Config.{sound}
@@ -21,25 +20,25 @@ in_frame k offset width =
 -- 3 comes before 2's width-allowed test but after its other tests
 unfoldable pub check_access : ItsConfig → ℕ → ℕ → Verdict
 check_access k offset width =
-    in_frame k offset width or Refused InvalidAccess then
-    not (is_identification offset) or Refused Identification then
-    takes_width (register_at offset) width or Refused InvalidAccess then
-    Accepted
+    in_frame k offset width or Err InvalidAccess then
+    not (is_identification offset) or Err Identification then
+    takes_width (register_at offset) width or Err InvalidAccess then
+    (Ok tt)
 
 -- of a read: 1, 2, 3, 2
 unfoldable pub check_read : ItsConfig → ItsRegisters → ℕ → ℕ → Verdict
 check_read k r offset width =
-    sound k r or Refused Unsound then
+    sound k r or Err Unsound then
     check_access k offset width
 
 -- of a write with a row of this many records: 1, 10, 2, 3, 2
 unfoldable pub check_write : ItsConfig → ItsRegisters → ℕ → ℕ → ℕ → Verdict
 check_write k r room offset width =
-    sound k r or Refused Unsound then
-    leb k.command_budget room or Refused RowTooShort then
+    sound k r or Err Unsound then
+    leb k.command_budget room or Err RowTooShort then
     check_access k offset width
 
 -- what an accepted access gives, or what its refusal does
 abbrev pub if_accepted : {A : Type 0} → Verdict → A → (Refusal → A) → A
-if_accepted Accepted a f = a
-if_accepted (Refused r) a f = f r
+if_accepted (Ok _) a f = a
+if_accepted (Err r) a f = f r

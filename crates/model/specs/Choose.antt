@@ -1,7 +1,6 @@
 -- No section of document 01: the words in which the other files choose.
 -- Assumes nothing.
-use Rattle.std.specs.Prelude.{Bool, true, false, List, [], ◌∷◌}
-use Rattle.std.proofs.Math.Option.{Option, none, some}
+use Rattle.std.specs.Prelude.{Bool, true, false, List, [], ◌∷◌, None, Option, Some}
 
 infixr 2 ◌or◌then◌
 -- `b or r then k`: where the check b fails the answer is r, and nothing that follows counts; else what follows decides
@@ -11,20 +10,20 @@ false or r then k = r
 
 -- what f makes of the thing, if there is one
 abbrev pub when_found : {A B : Type 0} → Option A → (A → Option B) → Option B
-when_found none f = none
-when_found (some a) f = f a
+when_found None f = None
+when_found (Some a) f = f a
 
 -- what f makes of the thing, or b if there is none
 abbrev pub if_found : {A B : Type 0} → Option A → (A → B) → B → B
-if_found none f b = b
-if_found (some a) f b = f a
+if_found None f b = b
+if_found (Some a) f b = f a
 
 -- there is one
 abbrev pub is_found : {A : Type 0} → Option A → Bool
-is_found none = false
-is_found (some a) = true
+is_found None = false
+is_found (Some a) = true
 
 -- the thing as a list: one element, or none
 abbrev pub list_of : {A : Type 0} → Option A → List A
-list_of none = []
-list_of (some a) = a ∷ []
+list_of None = []
+list_of (Some a) = a ∷ []

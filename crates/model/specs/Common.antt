@@ -2,8 +2,7 @@
 -- bit 63 of CBASER is set whenever the queue could run, and, with A4, no CWRITER write has bit 0 and no command is refused. What follows is
 -- `guarantees: Profiles`.
 -- Assumes nothing.
-use Rattle.std.specs.Prelude.{ℕ, ◌≤◌, ◌<◌, ◌≡◌, true, false, List}
-use Rattle.std.proofs.Math.Option.{none, some}
+use Rattle.std.specs.Prelude.{ℕ, ◌≤◌, ◌<◌, ◌≡◌, true, false, List, None, Some}
 use Rattle.model.specs.declared.ItsDeviceId.{ItsDeviceId}
 use Rattle.model.specs.declared.ItsState.{ItsState}
 use Rattle.model.specs.declared.ItsAction.{ItsAction}
@@ -16,6 +15,7 @@ use Rattle.model.specs.Step.{device_mapped, device_named}
 use Rattle.model.specs.Queue.{Window, waiting, run}
 use Rattle.model.specs.Passed.{command_here}
 use Rattle.model.specs.Entry.{stores}
+use Rattle.model.specs.Writing.{then_runs}
 
 -- the unit as it would be with another profile
 abbrev pub in_profile : ℕ → ItsState → ItsState
@@ -23,23 +23,23 @@ in_profile n u = with_config u (with_profile u.config n)
 
 -- The command x, met by the unit u: it names no device above 65535, and is no valid MAPD of a device that is mapped.
 pub record Common (u : ItsState) (x : Command) : Type 0 where
-  pub small : (d : ItsDeviceId) → device_named x ≡ some d → d.0 ≤ 65535
+  pub small : (d : ItsDeviceId) → device_named x ≡ Some d → d.0 ≤ 65535
   pub not_again : (d : ItsDeviceId) (bits : ℕ) → x ≡ Mapd d bits true → device_mapped u d ≡ false
 
 -- Every command that a run of n commands meets is such a command: the one on which CREADR stands after i of them.
 abbrev pub CommonRun : Window → ℕ → ItsState → Type 0
-CommonRun w n u = (i : ℕ) → i < n → (x : Command) → command_here w (run w i u).unit.registers ≡ some x → Common (run w i u).unit x
+CommonRun w n u = (i : ℕ) → i < n → (x : Command) → command_here w (run w i u).unit.registers ≡ Some x → Common (run w i u).unit x
 
 -- Of the queue that a write lets run; s is what the write does to the registers of the unit u.
 pub record CommonQueue (w : Window) (u : ItsState) (s : RegisterWrite) : Type 0 where
   -- where the unit is enabled and commands wait, bit 63 of CBASER is set
-  pub bit63 : s.runs ≡ true → s.registers.enabled ≡ true → 0 < waiting s.registers → CBASER_Valid of s.registers.cbaser ≡ 1
+  pub bit63 : then_runs s ≡ true → s.registers.enabled ≡ true → 0 < waiting s.registers → CBASER_Valid of s.registers.cbaser ≡ 1
   -- where they are no more than the budget, those that it meets are such commands
-  pub commands : s.runs ≡ true → s.registers.enabled ≡ true → waiting s.registers ≤ u.config.command_budget →
+  pub commands : then_runs s ≡ true → s.registers.enabled ≡ true → waiting s.registers ≤ u.config.command_budget →
       CommonRun w (waiting s.registers) (with_registers u s.registers)
   -- and none of them is refused, which in strict stalls the unit (A4)
-  pub none_refused : s.runs ≡ true → s.registers.enabled ≡ true → waiting s.registers ≤ u.config.command_budget →
-      (run w (waiting s.registers) (with_registers u s.registers)).stopped ≡ none
+  pub none_refused : then_runs s ≡ true → s.registers.enabled ≡ true → waiting s.registers ≤ u.config.command_budget →
+      (run w (waiting s.registers) (with_registers u s.registers)).stopped ≡ None
 
 -- Of a write to the unit u.
 pub record CommonWrite (w : Window) (row : List ItsAction) (u : ItsState) (offset width value : ℕ) : Type 0 where

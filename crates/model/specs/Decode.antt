@@ -1,14 +1,13 @@
 -- Document 01, "Commands": from four words to one of the kinds, or unknown. Each number is the field of Arm's command of that name.
 -- Assumes nothing.
-use Rattle.std.specs.Prelude.{ℕ, ◌+◌, Bool, List, eqb, if◌then◌else◌}
+use Rattle.std.specs.Prelude.{ℕ, ◌+◌, Bool, List, eqb, if◌then◌else◌, Err, Ok}
 use Rattle.model.specs.declared.ItsDeviceId.{ItsDeviceId}
 use Rattle.model.specs.declared.EventId.{EventId}
 use Rattle.model.specs.declared.CollectionId.{CollectionId}
 use Rattle.model.specs.declared.LpiId.{LpiId}
 use Rattle.model.specs.declared.GicVcpuId.{GicVcpuId}
 use Rattle.model.specs.declared.Command.TheVariants.{Mapd, Mapc, Mapti, Mapi, Movi, Int, Clear, Discard, Inv, Invall, Sync}
-use Rattle.model.specs.declared.Decoded.{Decoded}
-use Rattle.model.specs.declared.Decoded.TheVariants.{Known, Unknown}
+use Rattle.model.specs.Answer.{Decoded}
 use Rattle.model.specs.Arm.{bits, CommandField, dw, ◌from◌, Opcode, DeviceID, EventID, Size, pINTID, ICID, «V», op_MOVI, op_INT, op_CLEAR, op_SYNC, op_MAPD, op_MAPC, op_MAPTI, op_MAPI, op_INV, op_INVALL, op_DISCARD}
 
 -- opcode w0 7:0
@@ -50,15 +49,15 @@ lpi_field ws = record { 0 = pINTID from ws }
 -- a decoded command is one of the kinds or unknown
 unfoldable pub decode : List ℕ → Decoded
 decode ws =
-    if eqb (opcode_of ws) op_MAPD then Known (Mapd (device_field ws) (event_bits_field ws) (valid_field ws)) else
-    if eqb (opcode_of ws) op_MAPC then Known (Mapc (collection_field ws) (processor_field ws) (valid_field ws)) else
-    if eqb (opcode_of ws) op_MAPTI then Known (Mapti (device_field ws) (event_field ws) (lpi_field ws) (collection_field ws)) else
-    if eqb (opcode_of ws) op_MAPI then Known (Mapi (device_field ws) (event_field ws) (collection_field ws)) else
-    if eqb (opcode_of ws) op_MOVI then Known (Movi (device_field ws) (event_field ws) (collection_field ws)) else
-    if eqb (opcode_of ws) op_INT then Known (Int (device_field ws) (event_field ws)) else
-    if eqb (opcode_of ws) op_CLEAR then Known (Clear (device_field ws) (event_field ws)) else
-    if eqb (opcode_of ws) op_DISCARD then Known (Discard (device_field ws) (event_field ws)) else
-    if eqb (opcode_of ws) op_INV then Known (Inv (device_field ws) (event_field ws)) else
-    if eqb (opcode_of ws) op_INVALL then Known (Invall (collection_field ws)) else
-    if eqb (opcode_of ws) op_SYNC then Known Sync else
-    Unknown (opcode_of ws)
+    if eqb (opcode_of ws) op_MAPD then Ok (Mapd (device_field ws) (event_bits_field ws) (valid_field ws)) else
+    if eqb (opcode_of ws) op_MAPC then Ok (Mapc (collection_field ws) (processor_field ws) (valid_field ws)) else
+    if eqb (opcode_of ws) op_MAPTI then Ok (Mapti (device_field ws) (event_field ws) (lpi_field ws) (collection_field ws)) else
+    if eqb (opcode_of ws) op_MAPI then Ok (Mapi (device_field ws) (event_field ws) (collection_field ws)) else
+    if eqb (opcode_of ws) op_MOVI then Ok (Movi (device_field ws) (event_field ws) (collection_field ws)) else
+    if eqb (opcode_of ws) op_INT then Ok (Int (device_field ws) (event_field ws)) else
+    if eqb (opcode_of ws) op_CLEAR then Ok (Clear (device_field ws) (event_field ws)) else
+    if eqb (opcode_of ws) op_DISCARD then Ok (Discard (device_field ws) (event_field ws)) else
+    if eqb (opcode_of ws) op_INV then Ok (Inv (device_field ws) (event_field ws)) else
+    if eqb (opcode_of ws) op_INVALL then Ok (Invall (collection_field ws)) else
+    if eqb (opcode_of ws) op_SYNC then Ok Sync else
+    Err (record { 0 = opcode_of ws })

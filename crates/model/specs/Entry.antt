@@ -1,6 +1,6 @@
 -- Document 01, "Refusal numbers" and "Registers": the public entries: what each answers, and what it leaves in the unit and in the row.
 -- Assumes nothing.
-use Rattle.std.specs.Prelude.{ℕ, List, ◌++◌, length, drop, if◌then◌else◌}
+use Rattle.std.specs.Prelude.{ℕ, List, ◌++◌, length, drop, if◌then◌else◌, Err, Ok}
 use Rattle.model.specs.declared.ItsDeviceId.{ItsDeviceId}
 use Rattle.model.specs.declared.EventId.{EventId}
 use Rattle.model.specs.declared.ItsConfig.{ItsConfig}
@@ -9,15 +9,9 @@ use Rattle.model.specs.declared.ItsState.{ItsState}
 use Rattle.model.specs.declared.ItsAction.{ItsAction}
 use Rattle.model.specs.declared.RegisterWrite.{RegisterWrite}
 use Rattle.model.specs.declared.Refusal.TheVariants.{Unsound, ResourceNotFound}
-use Rattle.model.specs.declared.Verdict.TheVariants.{Accepted, Refused}
-use Rattle.model.specs.declared.ReadAnswer.{ReadAnswer}
-use Rattle.model.specs.declared.ReadAnswer.TheVariants.{Value, NoValue}
-use Rattle.model.specs.declared.WriteAnswer.{WriteAnswer}
-use Rattle.model.specs.declared.WriteAnswer.TheVariants.{Taken, NotTaken}
-use Rattle.model.specs.declared.TranslateAnswer.{TranslateAnswer}
-use Rattle.model.specs.declared.TranslateAnswer.TheVariants.{Delivered, NotDelivered}
 use Rattle.model.specs.declared.Configured.{Configured}
 use Rattle.model.specs.declared.Written.{Written}
+use Rattle.model.specs.Answer.{ReadAnswer, TranslateAnswer, WriteAnswer, write_refused, write_taken}
 use Rattle.model.specs.Choose.{◌or◌then◌, if_found}
 use Rattle.model.specs.Refusal.{verdict_number, ReadNumbers, read_numbers, WriteNumbers, write_numbers, TranslateNumbers, translate_numbers}
 use Rattle.model.specs.With.{with_registers}
@@ -32,12 +26,12 @@ use Rattle.model.specs.Writing.{register_write}
 unfoldable pub configure : ItsConfig → Configured
 configure k =
     if sound_config k
-    then record { unit = fresh_unit k; verdict = Accepted }
-    else record { unit = answers_no_unit; verdict = Refused Unsound }
+    then record { unit = fresh_unit k; verdict = Ok tt }
+    else record { unit = answers_no_unit; verdict = Err Unsound }
 
 -- A read, of configuration and registers.
 unfoldable pub read_from : ItsConfig → ItsRegisters → ℕ → ℕ → ReadAnswer
-read_from k r offset width = if_accepted (check_read k r offset width) (Value (read_of k r offset width (register_at offset))) NoValue
+read_from k r offset width = if_accepted (check_read k r offset width) (Ok (read_of k r offset width (register_at offset))) Err
 
 -- of a unit
 abbrev pub read : ItsState → ℕ → ℕ → ReadAnswer
@@ -46,8 +40,8 @@ read u offset width = read_from u.config u.registers offset width
 -- A translation works on a disabled unit too.
 unfoldable pub translate : ItsState → ItsDeviceId → EventId → TranslateAnswer
 translate u d e =
-    sound_unit u or NotDelivered Unsound then
-    if_found (delivery_in u d e) Delivered (NotDelivered ResourceNotFound)
+    sound_unit u or Err Unsound then
+    if_found (delivery_in u d e) Ok (Err ResourceNotFound)
 
 -- A write: the unit and the answer, and the row.
 pub record Outcome : Type 0 where
@@ -59,8 +53,8 @@ pub record Outcome : Type 0 where
 abbrev pub answer_of : Ran → WriteAnswer
 answer_of r =
     if_found r.stopped
-    (λ s. NotTaken s.refusal s.opcode r.unit.registers.creadr r.done (length r.actions))
-    (Taken r.done (length r.actions))
+    (λ s. write_refused s.refusal s.opcode r.unit.registers.creadr r.done (length r.actions))
+    (write_taken r.done (length r.actions))
 
 -- the row's first k records hold the actions of the k INT and CLEAR carried out, refusal or not; the others are unchanged
 abbrev pub row_after : List ItsAction → List ItsAction → List ItsAction
@@ -77,9 +71,9 @@ running w u row = after_run (run_queue w u) row
 -- what a write comes to: its registers are left in the unit, and the queue runs where it is let; else unit and answer are this, and the row stays
 abbrev pub concluded : Window → List ItsAction → ItsState → RegisterWrite → Outcome
 concluded w row u s =
-    if s.runs
-    then running w (with_registers u s.registers) row
-    else record { written = record { unit = with_registers u s.registers; answer = s.answer }; row = row }
+    if_found s.answer
+    (λ a. record { written = record { unit = with_registers u s.registers; answer = a }; row = row })
+    (running w (with_registers u s.registers) row)
 
 -- what a write does to the registers of a unit, with this row
 abbrev pub stores : List ItsAction → ItsState → ℕ → ℕ → ℕ → RegisterWrite

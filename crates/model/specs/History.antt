@@ -1,8 +1,7 @@
 -- Document 01, "In force", and document 02, A3, command by command, over the commands carried out, without tables. A history lists the commands carried out, the
 -- last one first: `x ∷ h` is h, and then x. Paragraph.antt says the same in the paragraph's own words.
 -- Assumes nothing.
-use Rattle.std.specs.Prelude.{ℕ, true, false, ◌&&◌, List, [], ◌∷◌, if◌then◌else◌}
-use Rattle.std.proofs.Math.Option.{Option, none, some}
+use Rattle.std.specs.Prelude.{ℕ, true, false, ◌&&◌, List, [], ◌∷◌, if◌then◌else◌, None, Option, Some}
 use Rattle.model.specs.declared.ItsDeviceId.{ItsDeviceId}
 use Rattle.model.specs.declared.EventId.{EventId}
 use Rattle.model.specs.declared.CollectionId.{CollectionId}
@@ -26,13 +25,13 @@ pub data Says (A : Type 0) : Type 0 where
 
 -- what is there after a command, and after a history: the last command that says something decides
 abbrev pub after : {A : Type 0} → Says A → Option A → Option A
-after (maps_it a) o = some a
-after unmaps_it o = none
+after (maps_it a) o = Some a
+after unmaps_it o = None
 after silent o = o
 
 -- what is there after the commands of a history
 abbrev pub now : {A : Type 0} → (Command → Says A) → List Command → Option A
-now says [] = none
+now says [] = None
 now says (x ∷ h) = after (says x) (now says h)
 
 -- A device is mapped if its last MAPD carried out was valid; with its event bits.
@@ -122,15 +121,15 @@ an_entry l c = record { lpi = l; collection = c }
 
 -- what a command leaves of a pair
 abbrev pub pair_after : Part → Option PairEntry → Option PairEntry
-pair_after (maps l c) o = some (an_entry l c)
-pair_after (moves c) o = when_found o (λ x. some (an_entry x.lpi c))
-pair_after ends o = none
-pair_after (ends_in c) o = when_found o (λ x. if same_collection x.collection c then none else some x)
+pair_after (maps l c) o = Some (an_entry l c)
+pair_after (moves c) o = when_found o (λ x. Some (an_entry x.lpi c))
+pair_after ends o = None
+pair_after (ends_in c) o = when_found o (λ x. if same_collection x.collection c then None else Some x)
 pair_after leaves o = o
 
 -- what a pair in force has, and nothing of one that is not in force
 abbrev pub pair_now : Profile → ItsDeviceId → EventId → List Command → Option PairEntry
-pair_now f d e [] = none
+pair_now f d e [] = None
 pair_now f d e (x ∷ h) = pair_after (part_in f d e x) (pair_now f d e h)
 
 -- where a message of the pair goes: the LPI of its last MAPTI or MAPI, and the processor of its collection
@@ -138,4 +137,4 @@ unfoldable pub delivery_of : Profile → List Command → ItsDeviceId → EventI
 delivery_of f h d e =
     when_found (pair_now f d e h) (λ x.
     when_found (processor_now x.collection h) (λ p.
-    some (delivery x.lpi p)))
+    Some (delivery x.lpi p)))

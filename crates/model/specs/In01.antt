@@ -2,8 +2,7 @@
 -- Stalled is carried along, and not looked at. `guarantees: Profiles` says that a base unit is this one. Checks and effects of a command are in Step
 -- (check_in01, effect_in01), the sizes in Config (sizes_in01).
 -- Assumes nothing.
-use Rattle.std.specs.Prelude.{ℕ, zero, suc, Bool, ◌&&◌, List, length, leb, if◌then◌else◌}
-use Rattle.std.proofs.Math.Option.{none, some}
+use Rattle.std.specs.Prelude.{ℕ, zero, suc, Bool, ◌&&◌, List, length, leb, if◌then◌else◌, Err, None, Ok, Some}
 use Rattle.model.specs.declared.ItsDeviceId.{ItsDeviceId}
 use Rattle.model.specs.declared.EventId.{EventId}
 use Rattle.model.specs.declared.ItsConfig.{ItsConfig}
@@ -12,16 +11,10 @@ use Rattle.model.specs.declared.ItsState.{ItsState}
 use Rattle.model.specs.declared.ItsAction.{ItsAction}
 use Rattle.model.specs.declared.Register.{Register}
 use Rattle.model.specs.declared.Command.{Command}
-use Rattle.model.specs.declared.Decoded.{Decoded}
-use Rattle.model.specs.declared.Decoded.TheVariants.{Known, Unknown}
 use Rattle.model.specs.declared.RegisterWrite.{RegisterWrite}
 use Rattle.model.specs.declared.Refusal.TheVariants.{Unsound, RowTooShort, BudgetExceeded, NotInWindow, OpcodeUnknown, ResourceNotFound}
-use Rattle.model.specs.declared.Verdict.TheVariants.{Accepted, Refused}
-use Rattle.model.specs.declared.ReadAnswer.{ReadAnswer}
-use Rattle.model.specs.declared.ReadAnswer.TheVariants.{Value, NoValue}
-use Rattle.model.specs.declared.TranslateAnswer.{TranslateAnswer}
-use Rattle.model.specs.declared.TranslateAnswer.TheVariants.{Delivered, NotDelivered}
 use Rattle.model.specs.declared.Configured.{Configured}
+use Rattle.model.specs.Answer.{Decoded, ReadAnswer, TranslateAnswer}
 use Rattle.model.specs.Choose.{◌or◌then◌, if_found}
 use Rattle.model.specs.With.{with_registers, with_writer}
 use Rattle.model.specs.Config.{sizes_in01, sound_ring, fresh_unit, answers_no_unit}
@@ -41,8 +34,8 @@ sound_in01 k r = sizes_in01 k && sound_ring r
 unfoldable pub configure_in01 : ItsConfig → Configured
 configure_in01 k =
     if sizes_in01 k
-    then record { unit = fresh_unit k; verdict = Accepted }
-    else record { unit = answers_no_unit; verdict = Refused Unsound }
+    then record { unit = fresh_unit k; verdict = Ok tt }
+    else record { unit = answers_no_unit; verdict = Err Unsound }
 
 -- what a register holds: CREADR its offset
 abbrev pub value_in01 : ItsState → Register → ℕ
@@ -51,20 +44,20 @@ value_in01 u n = value_with u.registers.creadr u.config u.registers n
 -- a read
 unfoldable pub read_in01 : ItsState → ℕ → ℕ → ReadAnswer
 read_in01 u offset width =
-    if_accepted (sound_in01 u.config u.registers or Refused Unsound then check_access u.config offset width)
-    (Value (read_by (value_in01 u) offset width (register_at offset)))
-    NoValue
+    if_accepted (sound_in01 u.config u.registers or Err Unsound then check_access u.config offset width)
+    (Ok (read_by (value_in01 u) offset width (register_at offset)))
+    Err
 
 -- a translation
 unfoldable pub translate_in01 : ItsState → ItsDeviceId → EventId → TranslateAnswer
 translate_in01 u d e =
-    sound_in01 u.config u.registers or NotDelivered Unsound then
-    if_found (delivery_in u d e) Delivered (NotDelivered ResourceNotFound)
+    sound_in01 u.config u.registers or Err Unsound then
+    if_found (delivery_in u d e) Ok (Err ResourceNotFound)
 
 -- The queue: each command in turn.
 abbrev pub turn_on_in01 : ItsState → ℕ → Decoded → Turn
-turn_on_in01 u opcode (Known x) = judged (check_in01 u x) x opcode
-turn_on_in01 u opcode (Unknown n) = stays OpcodeUnknown opcode
+turn_on_in01 u opcode (Ok x) = judged (check_in01 u x) x opcode
+turn_on_in01 u opcode (Err n) = stays OpcodeUnknown opcode
 
 unfoldable pub turn_in01 : Window → ItsState → Turn
 turn_in01 w u =
@@ -77,19 +70,19 @@ carry_out_in01 u x = with_registers (effect_in01 u x) (past_command (effect_in01
 
 abbrev pub go_on_in01 : ItsState → Turn → (ItsState → Ran) → Ran
 go_on_in01 u (passes x) rest = and_then (actions_of u x) (rest (carry_out_in01 u x))
-go_on_in01 u (stays r opcode) rest = ended u (some (record { refusal = r; opcode = opcode }))
+go_on_in01 u (stays r opcode) rest = ended u (Some (record { refusal = r; opcode = opcode }))
 
 abbrev pub run_in01 : Window → ℕ → ItsState → Ran
-run_in01 w zero u = ended u none
+run_in01 w zero u = ended u None
 run_in01 w (suc n) u = go_on_in01 u (turn_in01 w u) (run_in01 w n)
 
 -- an enabled unit runs its queue: 5 is tested once, then each command in turn
 unfoldable pub run_queue_in01 : Window → ItsState → Ran
 run_queue_in01 w u =
     if u.registers.enabled
-    then (leb (waiting u.registers) u.config.command_budget or ended u (some (record { refusal = BudgetExceeded; opcode = 0 })) then
+    then (leb (waiting u.registers) u.config.command_budget or ended u (Some (record { refusal = BudgetExceeded; opcode = 0 })) then
     run_in01 w (waiting u.registers) u)
-    else ended u none
+    else ended u None
 
 -- a write of CBASER stores the value, one of CWRITER the writer that is taken of the value
 abbrev pub to_cbaser_in01 : ItsRegisters → ℕ → RegisterWrite
@@ -105,17 +98,17 @@ write_register_in01 r value n = write_with (to_cbaser_in01 r) (to_cwriter_in01 r
 unfoldable pub stores_in01 : List ItsAction → ItsState → ℕ → ℕ → ℕ → RegisterWrite
 stores_in01 row u offset width value =
     if_accepted
-    (sound_in01 u.config u.registers or Refused Unsound then
-    leb u.config.command_budget (length row) or Refused RowTooShort then
+    (sound_in01 u.config u.registers or Err Unsound then
+    leb u.config.command_budget (length row) or Err RowTooShort then
     check_access u.config offset width)
     (write_register_in01 u.registers (written_by (value_in01 u) offset width value (register_at offset)) (register_at offset))
     (refusing u.registers 0)
 
 abbrev pub concluded_in01 : Window → List ItsAction → ItsState → RegisterWrite → Outcome
 concluded_in01 w row u s =
-    if s.runs
-    then after_run (run_queue_in01 w (with_registers u s.registers)) row
-    else record { written = record { unit = with_registers u s.registers; answer = s.answer }; row = row }
+    if_found s.answer
+    (λ a. record { written = record { unit = with_registers u s.registers; answer = a }; row = row })
+    (after_run (run_queue_in01 w (with_registers u s.registers)) row)
 
 unfoldable pub write_in01 : Window → List ItsAction → ItsState → ℕ → ℕ → ℕ → Outcome
 write_in01 w row u offset width value = concluded_in01 w row u (stores_in01 row u offset width value)

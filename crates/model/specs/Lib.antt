@@ -1,3 +1,4 @@
+pub mod Answer
 pub mod Choose
 pub mod Text
 pub mod Arm

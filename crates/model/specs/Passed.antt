@@ -1,14 +1,12 @@
 -- Demand 3: the commands that a write passes, read from the window at the old CREADR and on; and what carrying them out does to a unit, one command at
 -- a time, without the run. A history lists the commands carried out, the last one first.
 -- Assumes nothing.
-use Rattle.std.specs.Prelude.{ℕ, zero, suc, ◌+◌, ◌*◌, ◌%◌, ◌≡◌, true, List, [], ◌∷◌, ◌++◌}
-use Rattle.std.proofs.Math.Option.{Option, none, some}
+use Rattle.std.specs.Prelude.{ℕ, zero, suc, ◌+◌, ◌*◌, ◌%◌, ◌≡◌, true, List, [], ◌∷◌, ◌++◌, Err, None, Ok, Option, Some}
 use Rattle.model.specs.declared.ItsRegisters.{ItsRegisters}
 use Rattle.model.specs.declared.ItsState.{ItsState}
 use Rattle.model.specs.declared.ItsAction.{ItsAction}
 use Rattle.model.specs.declared.Command.{Command}
-use Rattle.model.specs.declared.Decoded.{Decoded}
-use Rattle.model.specs.declared.Decoded.TheVariants.{Known, Unknown}
+use Rattle.model.specs.Answer.{Decoded}
 use Rattle.model.specs.Choose.{when_found, list_of}
 use Rattle.model.specs.Arm.{command_size}
 use Rattle.model.specs.Config.{queue_size}
@@ -22,8 +20,8 @@ ring_offset r n = (r.creadr + command_size * n) % queue_size r.cbaser
 
 -- one of the kinds, or nothing
 abbrev pub if_known : Decoded → Option Command
-if_known (Known x) = some x
-if_known (Unknown opcode) = none
+if_known (Ok x) = Some x
+if_known (Err opcode) = None
 
 -- the n-th command from CREADR on, read from the window's bytes and decoded
 unfoldable pub command_of : Window → ItsRegisters → ℕ → Option Command

@@ -1,18 +1,14 @@
 -- Document 01, and 02, A3 and A4: the guest window of "Sizes", the waiting commands of "Registers", and the queue's run of "Refusal numbers" and "Commands".
 -- Assumes nothing.
-use Rattle.std.specs.Prelude.{ℕ, zero, suc, ◌+◌, ◌-◌, ◌*◌, ◌/◌, ◌%◌, ◌^◌, ◌<◌, Bool, ◌&&◌, ◌||◌, not, List, [], ◌∷◌, ◌++◌, length, drop, leb, eqb, if◌then◌else◌}
-use Rattle.std.proofs.Math.Option.{Option, none, some}
+use Rattle.std.specs.Prelude.{ℕ, zero, suc, ◌+◌, ◌-◌, ◌*◌, ◌/◌, ◌%◌, ◌^◌, ◌<◌, Bool, ◌&&◌, ◌||◌, not, List, [], ◌∷◌, ◌++◌, length, drop, leb, eqb, if◌then◌else◌, Err, None, Ok, Option, Some}
 use Rattle.model.specs.declared.ItsConfig.{ItsConfig}
 use Rattle.model.specs.declared.ItsRegisters.{ItsRegisters}
 use Rattle.model.specs.declared.ItsState.{ItsState}
 use Rattle.model.specs.declared.ItsAction.{ItsAction}
 use Rattle.model.specs.declared.Command.{Command}
-use Rattle.model.specs.declared.Decoded.{Decoded}
-use Rattle.model.specs.declared.Decoded.TheVariants.{Known, Unknown}
 use Rattle.model.specs.declared.Refusal.{Refusal}
 use Rattle.model.specs.declared.Refusal.TheVariants.{BudgetExceeded, NotInWindow, OpcodeUnknown}
-use Rattle.model.specs.declared.Verdict.{Verdict}
-use Rattle.model.specs.declared.Verdict.TheVariants.{Accepted, Refused}
+use Rattle.model.specs.Answer.{Decoded, Verdict}
 use Rattle.model.specs.Choose.{◌or◌then◌, if_found}
 use Rattle.model.specs.Arm.{◌of◌, CBASER_Valid, command_size}
 use Rattle.model.specs.With.{with_registers, with_reader, unit_stalled}
@@ -43,7 +39,7 @@ in_window w a = leb w.address a && (leb (a + command_size) (w.address + length w
 
 -- the words of the command at a guest address
 unfoldable pub command_at : Window → ℕ → Option (List ℕ)
-command_at w a = if in_window w a then some (words_at w.bytes (a - w.address)) else none
+command_at w a = if in_window w a then Some (words_at w.bytes (a - w.address)) else None
 
 -- writer minus reader, plus the size if negative
 unfoldable pub distance : ℕ → ℕ → ℕ → ℕ
@@ -70,13 +66,13 @@ pub data Turn : Type 0 where
 
 -- what a verdict makes of the command
 abbrev pub judged : Verdict → Command → ℕ → Turn
-judged Accepted x opcode = passes x
-judged (Refused r) x opcode = stays r opcode
+judged (Ok _) x opcode = passes x
+judged (Err r) x opcode = stays r opcode
 
 -- its own checks; an unknown command refuses at once
 abbrev pub turn_on : ItsState → ℕ → Decoded → Turn
-turn_on u opcode (Known x) = judged (check u x) x opcode
-turn_on u opcode (Unknown n) = stays OpcodeUnknown opcode
+turn_on u opcode (Ok x) = judged (check u x) x opcode
+turn_on u opcode (Err n) = stays OpcodeUnknown opcode
 
 -- each command in turn: 6, its own checks (20 to 27, or 8), 9 last
 unfoldable pub turn : Window → ItsState → Turn
@@ -121,11 +117,11 @@ and_then handed r = record { unit = r.unit; done = suc r.done; actions = handed 
 -- earlier commands stay applied, CREADR stays on the failing one, and that one changes nothing
 abbrev pub go_on : ItsState → Turn → (ItsState → Ran) → Ran
 go_on u (passes x) rest = and_then (actions_of u x) (rest (carry_out u x))
-go_on u (stays r opcode) rest = ended u (some (record { refusal = r; opcode = opcode }))
+go_on u (stays r opcode) rest = ended u (Some (record { refusal = r; opcode = opcode }))
 
 -- n waiting commands
 abbrev pub run : Window → ℕ → ItsState → Ran
-run w zero u = ended u none
+run w zero u = ended u None
 run w (suc n) u = go_on u (turn w u) (run w n)
 
 -- a refused command sets Stalled, in strict (02, A4)
@@ -148,6 +144,6 @@ may_run k r = r.enabled && not (held k r)
 unfoldable pub run_queue : Window → ItsState → Ran
 run_queue w u =
     if may_run u.config u.registers
-    then (leb (waiting u.registers) u.config.command_budget or ended u (some (record { refusal = BudgetExceeded; opcode = 0 })) then
+    then (leb (waiting u.registers) u.config.command_budget or ended u (Some (record { refusal = BudgetExceeded; opcode = 0 })) then
     halting (run w (waiting u.registers) u))
-    else ended u none
+    else ended u None

@@ -1,7 +1,7 @@
 -- Document 01, "Refusal numbers", and document 02, A1 to A3: the number of each refusal, and for each answer that is an enum the paper's number and values in
 -- every case.
 -- Assumes nothing.
-use Rattle.std.specs.Prelude.{ℕ, ◌&&◌, List, [], ◌∷◌, leb, if◌then◌else◌}
+use Rattle.std.specs.Prelude.{ℕ, ◌&&◌, List, [], ◌∷◌, leb, if◌then◌else◌, Err, None, Ok, Some}
 use Rattle.model.specs.declared.Refusal.{Refusal}
 use Rattle.model.specs.declared.Refusal.TheVariants.{
   Unsound,
@@ -24,16 +24,7 @@ use Rattle.model.specs.declared.Refusal.TheVariants.{
   TableFull,
   LineDoesNotFit,
 }
-use Rattle.model.specs.declared.Verdict.{Verdict}
-use Rattle.model.specs.declared.Verdict.TheVariants.{Accepted, Refused}
-use Rattle.model.specs.declared.Executed.{Executed}
-use Rattle.model.specs.declared.Executed.TheVariants.{NotDone, Done, Acted}
-use Rattle.model.specs.declared.ReadAnswer.{ReadAnswer}
-use Rattle.model.specs.declared.ReadAnswer.TheVariants.{Value, NoValue}
-use Rattle.model.specs.declared.WriteAnswer.{WriteAnswer}
-use Rattle.model.specs.declared.WriteAnswer.TheVariants.{Taken, NotTaken}
-use Rattle.model.specs.declared.TranslateAnswer.{TranslateAnswer}
-use Rattle.model.specs.declared.TranslateAnswer.TheVariants.{Delivered, NotDelivered}
+use Rattle.model.specs.Answer.{Executed, ReadAnswer, TranslateAnswer, Verdict, WriteAnswer}
 
 -- the number of a refusal
 abbrev pub number_of : Refusal → ℕ
@@ -109,14 +100,14 @@ folded n = if leb 20 n && leb n 27 then 7 else n
 
 -- what was accepted has the number 0
 abbrev pub verdict_number : Verdict → ℕ
-verdict_number Accepted = 0
-verdict_number (Refused r) = number_of r
+verdict_number (Ok _) = 0
+verdict_number (Err r) = number_of r
 
 -- what carrying out a command comes to, with its refusal's number
 abbrev pub executed_number : Executed → ℕ
-executed_number (NotDone r) = number_of r
-executed_number Done = 0
-executed_number (Acted a) = 0
+executed_number (Err r) = number_of r
+executed_number (Ok None) = 0
+executed_number (Ok (Some a)) = 0
 
 -- a read answers refusal and value: a refused read gives value 0
 pub record ReadNumbers : Type 0 where
@@ -125,8 +116,8 @@ pub record ReadNumbers : Type 0 where
 
 -- the numbers of a read, in each case
 abbrev pub read_numbers : ReadAnswer → ReadNumbers
-read_numbers (Value v) = record { refusal = 0; value = v }
-read_numbers (NoValue r) = record { refusal = number_of r; value = 0 }
+read_numbers (Ok v) = record { refusal = 0; value = v }
+read_numbers (Err r) = record { refusal = number_of r; value = 0 }
 
 -- a translation answers refusal, LPI and processor: a refused translate gives LPI 0, processor 0
 pub record TranslateNumbers : Type 0 where
@@ -136,8 +127,8 @@ pub record TranslateNumbers : Type 0 where
 
 -- the numbers of a translation, in each case
 abbrev pub translate_numbers : TranslateAnswer → TranslateNumbers
-translate_numbers (Delivered a) = record { refusal = 0; lpi = a.lpi.0; processor = a.target.0 }
-translate_numbers (NotDelivered r) = record { refusal = number_of r; lpi = 0; processor = 0 }
+translate_numbers (Ok a) = record { refusal = 0; lpi = a.lpi.0; processor = a.target.0 }
+translate_numbers (Err r) = record { refusal = number_of r; lpi = 0; processor = 0 }
 
 -- a write answers refusal, opcode, offset, done, actions: a refused one too hands over what the commands before the refused one made (02, A2)
 pub record WriteNumbers : Type 0 where
@@ -149,5 +140,5 @@ pub record WriteNumbers : Type 0 where
 
 -- the numbers of a write, in each case
 abbrev pub write_numbers : WriteAnswer → WriteNumbers
-write_numbers (Taken done actions) = record { refusal = 0; opcode = 0; offset = 0; done = done; actions = actions }
-write_numbers (NotTaken r opcode offset done actions) = record { refusal = number_of r; opcode = opcode; offset = offset; done = done; actions = actions }
+write_numbers (Ok w) = record { refusal = 0; opcode = 0; offset = 0; done = w.done; actions = w.actions }
+write_numbers (Err w) = record { refusal = number_of w.refusal; opcode = w.opcode; offset = w.offset; done = w.done; actions = w.actions }

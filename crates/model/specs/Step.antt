@@ -1,8 +1,7 @@
 -- Document 01, "Commands", and document 02, A3: the checks of a command in order, the first that fails being the answer, and then its effect on the unit. A command
 -- that is not accepted changes nothing.
 -- Assumes nothing.
-use Rattle.std.specs.Prelude.{ℕ, ◌^◌, Bool, true, false, ◌&&◌, not, List, [], ◌∷◌, leb, ltb, if◌then◌else◌}
-use Rattle.std.proofs.Math.Option.{Option, none, some}
+use Rattle.std.specs.Prelude.{ℕ, ◌^◌, Bool, true, false, ◌&&◌, not, List, [], ◌∷◌, leb, ltb, if◌then◌else◌, Err, None, Ok, Option, Some}
 use Rattle.model.specs.declared.ItsDeviceId.{ItsDeviceId}
 use Rattle.model.specs.declared.EventId.{EventId}
 use Rattle.model.specs.declared.CollectionId.{CollectionId}
@@ -18,11 +17,8 @@ use Rattle.model.specs.declared.ItsAction.{ItsAction}
 use Rattle.model.specs.declared.Command.{Command}
 use Rattle.model.specs.declared.Command.TheVariants.{Mapd, Mapc, Mapti, Mapi, Movi, Int, Clear, Discard, Inv, Invall, Sync}
 use Rattle.model.specs.declared.Refusal.TheVariants.{LpiOutOfRange, DeviceUnmapped, EventBeyondBits, CollectionUnmapped, PairUnmapped, ProcessorUnlisted, DeviceTooLarge, ResourceNotFound, TableFull}
-use Rattle.model.specs.declared.Executed.{Executed}
 use Rattle.model.specs.declared.Applied.{Applied}
-use Rattle.model.specs.declared.Executed.TheVariants.{NotDone, Done, Acted}
-use Rattle.model.specs.declared.Verdict.{Verdict}
-use Rattle.model.specs.declared.Verdict.TheVariants.{Accepted, Refused}
+use Rattle.model.specs.Answer.{Executed, Verdict}
 use Rattle.model.specs.Choose.{◌or◌then◌, when_found, if_found, is_found, list_of}
 use Rattle.model.specs.Arm.{LPI_base}
 use Rattle.model.specs.Table.{look, room, store, drop_all}
@@ -50,7 +46,7 @@ unfoldable pub delivery_in : ItsState → ItsDeviceId → EventId → Option Del
 delivery_in u d e =
     when_found (translation_of u d e) (λ r.
     when_found (collection_of u r.collection) (λ k.
-    some (delivery r.lpi k.target)))
+    Some (delivery r.lpi k.target)))
 
 -- The checks.
 
@@ -97,48 +93,48 @@ room_for_pair u d e = room (is_pair d e) (λ r. r.used) u.translations
 -- MAPTI and MAPI: LPI in 8192..limit; device mapped; event below 2^bits; collection mapped; 9 last
 unfoldable pub check_mapping : ItsState → ItsDeviceId → EventId → LpiId → CollectionId → Verdict
 check_mapping u d e l c =
-    lpi_in_range u.config l or Refused LpiOutOfRange then
-    device_mapped u d or Refused DeviceUnmapped then
-    event_fits u d e or Refused EventBeyondBits then
-    collection_mapped u c or Refused CollectionUnmapped then
-    room_for_pair u d e or Refused TableFull then
-    Accepted
+    lpi_in_range u.config l or Err LpiOutOfRange then
+    device_mapped u d or Err DeviceUnmapped then
+    event_fits u d e or Err EventBeyondBits then
+    collection_mapped u c or Err CollectionUnmapped then
+    room_for_pair u d e or Err TableFull then
+    (Ok tt)
 
 -- 01's checks of a command, in order
 abbrev pub check_in01 : ItsState → Command → Verdict
-check_in01 u (Mapd d bits true) = room_for_device u d or Refused TableFull then Accepted
-check_in01 u (Mapd d bits false) = Accepted
+check_in01 u (Mapd d bits true) = room_for_device u d or Err TableFull then Ok tt
+check_in01 u (Mapd d bits false) = Ok tt
 check_in01 u (Mapc c p true) =
-    listed u.config p or Refused ProcessorUnlisted then
-    room_for_collection u c or Refused TableFull then
-    Accepted
-check_in01 u (Mapc c p false) = Accepted
+    listed u.config p or Err ProcessorUnlisted then
+    room_for_collection u c or Err TableFull then
+    (Ok tt)
+check_in01 u (Mapc c p false) = Ok tt
 check_in01 u (Mapti d e l c) = check_mapping u d e l c
 check_in01 u (Mapi d e c) = check_mapping u d e (event_as_lpi e) c
 check_in01 u (Movi d e c) =
-    collection_mapped u c or Refused CollectionUnmapped then
-    pair_mapped u d e or Refused PairUnmapped then
-    Accepted
-check_in01 u (Int d e) = pair_translates u d e or Refused ResourceNotFound then Accepted
-check_in01 u (Clear d e) = pair_translates u d e or Refused ResourceNotFound then Accepted
-check_in01 u (Discard d e) = pair_mapped u d e or Refused PairUnmapped then Accepted
-check_in01 u (Inv d e) = pair_mapped u d e or Refused PairUnmapped then Accepted
-check_in01 u (Invall c) = collection_mapped u c or Refused CollectionUnmapped then Accepted
-check_in01 u Sync = Accepted
+    collection_mapped u c or Err CollectionUnmapped then
+    pair_mapped u d e or Err PairUnmapped then
+    (Ok tt)
+check_in01 u (Int d e) = pair_translates u d e or Err ResourceNotFound then Ok tt
+check_in01 u (Clear d e) = pair_translates u d e or Err ResourceNotFound then Ok tt
+check_in01 u (Discard d e) = pair_mapped u d e or Err PairUnmapped then Ok tt
+check_in01 u (Inv d e) = pair_mapped u d e or Err PairUnmapped then Ok tt
+check_in01 u (Invall c) = collection_mapped u c or Err CollectionUnmapped then Ok tt
+check_in01 u Sync = Ok tt
 
 -- the device that a command names: eight of the kinds name one
 abbrev pub device_named : Command → Option ItsDeviceId
-device_named (Mapd d bits valid) = some d
-device_named (Mapc c p valid) = none
-device_named (Mapti d e l c) = some d
-device_named (Mapi d e c) = some d
-device_named (Movi d e c) = some d
-device_named (Int d e) = some d
-device_named (Clear d e) = some d
-device_named (Discard d e) = some d
-device_named (Inv d e) = some d
-device_named (Invall c) = none
-device_named Sync = none
+device_named (Mapd d bits valid) = Some d
+device_named (Mapc c p valid) = None
+device_named (Mapti d e l c) = Some d
+device_named (Mapi d e c) = Some d
+device_named (Movi d e c) = Some d
+device_named (Int d e) = Some d
+device_named (Clear d e) = Some d
+device_named (Discard d e) = Some d
+device_named (Inv d e) = Some d
+device_named (Invall c) = None
+device_named Sync = None
 
 -- in strict, device numbers above 65535, beyond what TYPER announces, are too large (02, A3)
 unfoldable pub too_large : ItsConfig → ItsDeviceId → Bool
@@ -150,7 +146,7 @@ names_too_large k x = if_found (device_named x) (too_large k) false
 
 -- THE CHECKS OF A COMMAND: device too large, before any other; then 01's
 abbrev pub check : ItsState → Command → Verdict
-check u x = not (names_too_large u.config x) or Refused DeviceTooLarge then check_in01 u x
+check u x = not (names_too_large u.config x) or Err DeviceTooLarge then check_in01 u x
 
 -- The effects. Each says which of the three tables changes, and how.
 
@@ -237,7 +233,7 @@ action_to pending a = record { target = a.target; lpi = a.lpi; pending = pending
 
 -- the action for a pair that translates
 unfoldable pub actions_on : Bool → ItsState → ItsDeviceId → EventId → List ItsAction
-actions_on pending u d e = list_of (when_found (delivery_in u d e) (λ a. some (action_to pending a)))
+actions_on pending u d e = list_of (when_found (delivery_in u d e) (λ a. Some (action_to pending a)))
 
 -- what a command that is accepted hands to the host: one action, or none
 abbrev pub actions_of : ItsState → Command → List ItsAction
@@ -255,8 +251,8 @@ actions_of u Sync = []
 
 -- the command is accepted
 abbrev pub is_accepted : Verdict → Bool
-is_accepted Accepted = true
-is_accepted (Refused r) = false
+is_accepted (Ok _) = true
+is_accepted (Err r) = false
 
 -- all its checks hold
 abbrev pub accepts : ItsState → Command → Bool
@@ -268,9 +264,9 @@ stepped u x = if accepts u x then effect u x else u
 
 -- what a verdict and the actions come to
 abbrev pub executed_by : Verdict → List ItsAction → Executed
-executed_by (Refused r) handed = NotDone r
-executed_by Accepted [] = Done
-executed_by Accepted (a ∷ handed) = Acted a
+executed_by (Err r) handed = Err r
+executed_by (Ok _) [] = (Ok None)
+executed_by (Ok _) (a ∷ handed) = Ok (Some a)
 
 -- what carrying out the command comes to
 unfoldable pub executed : ItsState → Command → Executed

@@ -2,7 +2,7 @@
 -- write stores, whether that is a new base, whether the queue then runs, and the answer where it does not. The entry, what is promised of a write, and
 -- both texts of the unit go by it.
 -- Assumes nothing.
-use Rattle.std.specs.Prelude.{ℕ, ◌+◌, Bool, true, false, ◌&&◌, not, get_or, set, eqb, if◌then◌else◌}
+use Rattle.std.specs.Prelude.{ℕ, ◌+◌, Bool, true, false, ◌&&◌, not, Option, Some, None, is_none, get_or, set, eqb, if◌then◌else◌}
 use Rattle.model.specs.declared.ItsConfig.{ItsConfig}
 use Rattle.model.specs.declared.ItsRegisters.{ItsRegisters}
 use Rattle.model.specs.declared.Register.{Register}
@@ -10,7 +10,7 @@ use Rattle.model.specs.declared.Register.TheVariants.{Ctlr, Iidr, Typer, Cbaser,
 use Rattle.model.specs.declared.RegisterWrite.{RegisterWrite}
 use Rattle.model.specs.declared.Refusal.{Refusal}
 use Rattle.model.specs.declared.Refusal.TheVariants.{BaseZero, WriterRefused}
-use Rattle.model.specs.declared.WriteAnswer.TheVariants.{Taken, NotTaken}
+use Rattle.model.specs.Answer.{write_refused, write_taken}
 use Rattle.model.specs.Choose.{◌or◌then◌}
 use Rattle.model.specs.Arm.{bits, ◌of◌, ◌in_place◌, without, CTLR_Enabled, CWRITER_Retry, GITS_CWRITER, BASER_Type, BASER_Entry_Size}
 use Rattle.model.specs.With.{with_enabled, with_stalled, with_ring, with_writer, with_basers}
@@ -23,19 +23,23 @@ use Rattle.model.specs.Access.{check_write, if_accepted}
 
 -- refused before a run: the registers stay, nothing is done, and there is no action. The offset is 0, but for 7 at CWRITER
 abbrev pub refusing : ItsRegisters → ℕ → Refusal → RegisterWrite
-refusing r offset why = record { registers = r; rebased = false; runs = false; answer = NotTaken why 0 offset 0 0 }
+refusing r offset why = record { registers = r; rebased = false; answer = Some (write_refused why 0 offset 0 0) }
 
 -- stored, or ignored (answer 0), with nothing to run
 abbrev pub storing : ItsRegisters → RegisterWrite
-storing r = record { registers = r; rebased = false; runs = false; answer = Taken 0 0 }
+storing r = record { registers = r; rebased = false; answer = Some (write_taken 0 0) }
 
 -- stored with a new base, and nothing to run
 abbrev pub rebasing : ItsRegisters → RegisterWrite
-rebasing r = record { registers = r; rebased = true; runs = false; answer = Taken 0 0 }
+rebasing r = record { registers = r; rebased = true; answer = Some (write_taken 0 0) }
 
 -- stored; then the queue runs, where it may (Queue.may_run)
 abbrev pub going : ItsRegisters → RegisterWrite
-going r = record { registers = r; rebased = false; runs = true; answer = Taken 0 0 }
+going r = record { registers = r; rebased = false; answer = None }
+
+-- where no answer stands yet, the queue then runs
+abbrev pub then_runs : RegisterWrite → Bool
+then_runs s = is_none s.answer
 
 -- Each register, with the value that is written: one of 64 bits is merged before.
 
@@ -129,7 +133,7 @@ register_write k r room offset width value =
 
 -- For the theorems beside document 01's unit: what is stored, with Stalled so
 abbrev pub stored_stalled : RegisterWrite → Bool → RegisterWrite
-stored_stalled s b = record { registers = with_stalled s.registers b; rebased = s.rebased; runs = s.runs; answer = s.answer }
+stored_stalled s b = record { registers = with_stalled s.registers b; rebased = s.rebased; answer = s.answer }
 
 -- and the value that counts: at CWRITER without bit 0, which is Retry. (At the register's high half, GITS_CWRITER + 4, it is the whole value)
 abbrev pub without_retry : ℕ → ℕ → ℕ

@@ -2,37 +2,46 @@
 #![tactic(auto)]
 
 // Numbers of five kinds, kept apart as in the crate.
-#[derive(Clone, Copy)]
+#[derive(Clone, Copy, Debug, Default, PartialEq, Eq)]
 pub struct ItsDeviceId(pub u32);
 
-#[derive(Clone, Copy)]
+#[derive(Clone, Copy, Debug, Default, PartialEq, Eq)]
 pub struct EventId(pub u32);
 
-#[derive(Clone, Copy)]
+#[derive(Clone, Copy, Debug, Default, PartialEq, Eq)]
 pub struct CollectionId(pub u16);
 
-#[derive(Clone, Copy)]
+#[derive(Clone, Copy, Debug, Default, PartialEq, Eq)]
 pub struct LpiId(pub u32);
 
-#[derive(Clone, Copy)]
+#[derive(Clone, Copy, Debug, Default, PartialEq, Eq)]
 pub struct GicVcpuId(pub u16);
 
+// A device and one of its events: what a message names.
+#[derive(Clone, Copy, Debug, PartialEq, Eq)]
+pub struct Pair {
+    pub device: ItsDeviceId,
+    pub event: EventId,
+}
+
 // The records of the three tables. A record that is not used is free.
-#[derive(Clone, Copy)]
+// Stays: `used` stands beside the fields and is no Option. A host may hand over a free record whose fields are not 0, the entries answer for it, and what
+// a write leaves in it is promised (`Writes`, `CallWrites`).
+#[derive(Clone, Copy, Default)]
 pub struct ItsDevice {
     pub device: ItsDeviceId,
     pub event_bits: u8,
     pub used: bool,
 }
 
-#[derive(Clone, Copy)]
+#[derive(Clone, Copy, Default)]
 pub struct ItsCollection {
     pub collection: CollectionId,
     pub target: GicVcpuId,
     pub used: bool,
 }
 
-#[derive(Clone, Copy)]
+#[derive(Clone, Copy, Default)]
 pub struct Translation {
     pub device: ItsDeviceId,
     pub event: EventId,
@@ -42,7 +51,8 @@ pub struct Translation {
 }
 
 // What configuration fixes. The profile is 0 for base or 1 for strict. The processors are the first `processor_count` of the sixteen.
-#[derive(Clone, Copy)]
+// Stays: the profile is a number and the count stands beside the sixteen. A host gives any number of both, and `Configures` promises an answer to each.
+#[derive(Clone, Copy, Default)]
 pub struct ItsConfig {
     pub lpi_limit: u32,
     pub command_budget: u32,
@@ -74,7 +84,7 @@ pub struct ItsState {
 }
 
 // The register that an offset of the frame belongs to.
-#[derive(Clone, Copy)]
+#[derive(Clone, Copy, Debug, PartialEq, Eq)]
 pub enum Register {
     Ctlr,
     Iidr,
@@ -87,7 +97,8 @@ pub enum Register {
 }
 
 // A decoded command.
-#[derive(Clone, Copy)]
+// Stays: `valid` stands beside the bits and the processor. Arm's command has these fields whether it is valid or not, and `decode` promises each.
+#[derive(Clone, Copy, Debug, PartialEq, Eq)]
 pub enum Command {
     Mapd {
         device: ItsDeviceId,
@@ -137,15 +148,12 @@ pub enum Command {
     Sync,
 }
 
-// What the decoder answers: one of the kinds, or the opcode of none of them.
-#[derive(Clone, Copy)]
-pub enum Decoded {
-    Known(Command),
-    Unknown(u8),
-}
+// An opcode that is none of the kinds'.
+#[derive(Clone, Copy, Debug, PartialEq, Eq)]
+pub struct UnknownOpcode(pub u8);
 
 // Why something is refused. The numbers that the host sees are given by specs/Refusal.antt.
-#[derive(Clone, Copy)]
+#[derive(Clone, Copy, Debug, PartialEq, Eq)]
 pub enum Refusal {
     Unsound,
     RowTooShort,
@@ -168,79 +176,54 @@ pub enum Refusal {
     LineDoesNotFit,
 }
 
-// What becomes of a command or of a configuration: it is taken, or the first check that failed.
-#[derive(Clone, Copy)]
-pub enum Verdict {
-    Accepted,
-    Refused(Refusal),
-}
-
-// What carrying out a command comes to: its refusal, nothing to hand over, or an action for the host.
-#[derive(Clone, Copy)]
-pub enum Executed {
-    NotDone(Refusal),
-    Done,
-    Acted(ItsAction),
-}
-
 // Where a message goes.
-#[derive(Clone, Copy)]
+#[derive(Clone, Copy, Debug, PartialEq, Eq)]
 pub struct Delivery {
     pub lpi: LpiId,
     pub target: GicVcpuId,
 }
 
 // What an INT (pending) or a CLEAR (not pending) hands to the host.
-#[derive(Clone, Copy)]
+#[derive(Clone, Copy, Debug, Default, PartialEq, Eq)]
 pub struct ItsAction {
     pub target: GicVcpuId,
     pub lpi: LpiId,
     pub pending: bool,
 }
 
-// The answers of the public entries.
-#[derive(Clone, Copy)]
-pub enum ReadAnswer {
-    Value(u64),
-    NoValue(Refusal),
+// What a write has done, where it is taken: how many commands, and how many actions they handed over.
+#[derive(Clone, Copy, Debug, PartialEq, Eq)]
+pub struct WriteDone {
+    pub done: usize,
+    pub actions: usize,
 }
 
-#[derive(Clone, Copy)]
-pub enum WriteAnswer {
-    Taken {
-        done: usize,
-        actions: usize,
-    },
-    NotTaken {
-        refusal: Refusal,
-        opcode: u8,
-        offset: u64,
-        done: usize,
-        actions: usize,
-    },
+// Why a write is refused: with the opcode of a refused command and the offset at which the queue stands, and what the commands before it have done.
+#[derive(Clone, Copy, Debug, PartialEq, Eq)]
+pub struct WriteRefusal {
+    pub refusal: Refusal,
+    pub opcode: u8,
+    pub offset: u64,
+    pub done: usize,
+    pub actions: usize,
 }
 
-#[derive(Clone, Copy)]
-pub enum TranslateAnswer {
-    Delivered(Delivery),
-    NotDelivered(Refusal),
-}
+pub type WriteAnswer = Result<WriteDone, WriteRefusal>;
 
-// What a write does to the registers before any command runs: the registers that it leaves, whether they have a new base, whether the queue then
-// runs, and the answer where it does not.
+// What a write does to the registers before any command runs: the registers that it leaves, whether they have a new base, and its answer; none stands
+// where the queue then runs and gives it.
 #[derive(Clone, Copy)]
 pub struct RegisterWrite {
     pub registers: ItsRegisters,
     pub rebased: bool,
-    pub runs: bool,
-    pub answer: WriteAnswer,
+    pub answer: Option<WriteAnswer>,
 }
 
 // An answer that comes with a unit stands beside it.
 #[derive(Clone, Copy)]
 pub struct Configured {
     pub unit: ItsState,
-    pub verdict: Verdict,
+    pub verdict: Result<(), Refusal>,
 }
 
 #[derive(Clone, Copy)]
@@ -253,5 +236,5 @@ pub struct Written {
 #[derive(Clone, Copy)]
 pub struct Applied {
     pub unit: ItsState,
-    pub executed: Executed,
+    pub executed: Result<Option<ItsAction>, Refusal>,
 }

@@ -1,39 +1,37 @@
 -- The turns of a write add up to the model's run: what each part of a turn comes to, and what is known between two turns.
 -- Assumes nothing.
-use Rattle.std.specs.Prelude.{if◌then◌else◌}
+use Rattle.std.specs.Prelude.{Err, None, Ok, Option, Some, is_some}
 use Prim.Native.Nat.{ℕ, ◌<◌, ◌≤◌}
 use native.Mathlib.Omega.{arith}
 use mathlib.Core.Path.{◌≡◌, refl, sym, ap, ap₂, subst, ◌∙◌}
-use mathlib.Core.Bool.{Bool, true, false, ◌&&◌, ◌||◌}
+use mathlib.Core.Bool.{Bool, true, false}
 use mathlib.Core.List.{List, [], ◌∷◌, ◌++◌}
 use lib.Dec.{leb}
 use lib.ListN.{length, set, drop}
 use borrow.Author.Tests.{ltb-true, ltb-false, le-leb, lt-leb}
-use Rattle.model.specs.declared.ItsState.{ItsState}
+use Rattle.model.specs.declared.Applied.{Applied}
 use Rattle.model.specs.declared.ItsRegisters.{ItsRegisters}
+use Rattle.model.specs.declared.ItsState.{ItsState}
 use Rattle.model.specs.declared.ItsAction.{ItsAction}
 use Rattle.model.specs.declared.Command.{Command}
-use Rattle.model.specs.declared.Executed.{Executed}
-use Rattle.model.specs.declared.Executed.TheVariants.{NotDone, Done, Acted}
-use Rattle.model.specs.With.{with_registers, unit_stalled}
-use Rattle.model.specs.Profile.{is_strict}
-use Rattle.model.specs.Step.{check, stepped, executed}
-use Rattle.model.specs.Queue.{Window, Stands, Turn, turn, waiting, command_address, judged, past_command, run, stall, halting, may_run}
+use Rattle.model.specs.declared.Refusal.{Refusal}
+use Rattle.model.specs.Choose.{if_found, list_of}
+use Rattle.model.specs.With.{with_registers}
+use Rattle.model.specs.Step.{check, executed, execution}
+use Rattle.model.specs.Queue.{Window, Turn, stays, turn, waiting, command_at, command_address, judged, past_command, run, halting, may_run}
 use Rattle.model.specs.Entry.{row_after, after_run}
 use Rattle.model.proofs.Cases.{cases, never}
 use Rattle.model.proofs.Answers.{both_hold, second-fails, first-fails, halted-answer}
-use Rattle.model.proofs.RunLaws.{stands_stepped, stands_past}
+use Rattle.model.proofs.RunLaws.{told_refused}
 use Rattle.model.proofs.RowLaws.{row_of, row_long, row_past, row_on, row_same}
-use Rattle.answers.specs.declared.Turned.{Turned}
 use Rattle.answers.specs.declared.Counts.{Counts}
-use Rattle.answers.specs.Counting.{handed_by, acts, begun, over, counted_on, is_halted}
-use Rattle.answers.proofs.Turning.{Turning, one_by, is_refused, is_done, is_acted}
+use Rattle.answers.specs.Counting.{Turned, handed_by, passing, begun, over, counted_on}
+use Rattle.answers.proofs.Turning.{Turning, one_by, is_done, is_acted}
 use Rattle.answers.proofs.Counting.{Counting, begins, stands, fits, room, turns, fewer, left_ends, actions_end, answer_ends}
-use Rattle.decoding.specs.declared.CommandRead.{CommandRead}
-use Rattle.decoding.specs.Reading.{command_read, turn_read}
+use Rattle.decoding.specs.Reading.{turn_read}
 use Rattle.decoding.proofs.Turning.{turn_reads}
 use Rattle.queue.specs.declared.Progress.{Progress}
-use Rattle.queue.specs.Ongoing.{Ready, Begun, no_action, first_of, progress_with, progress_of, first_counts, turned_in, handed_in, turned_on, turn_of, finish_of, end_of}
+use Rattle.queue.specs.Ongoing.{Ready, Begun, goes_on, first_of, progress_with, progress_of, first_counts, turned_on, turn_of, finish_of, end_of}
 
 -- The counts before the first turn.
 module _ (u : ItsState) where
@@ -52,66 +50,44 @@ module _ (u : ItsState) where
 
 -- A turn, from the code's account of it.
 pub moves_on : (t : Progress) {y : Turn} {v : ItsState} {turned : Turned} {handed : List ItsAction} → Turning t.unit y v turned handed →
-    {n : Counts} → n ≡ counted_on t.counts turned → {r : Progress} → r ≡ progress_of v n handed t.counts.actions → r ≡ turned_on t y
+    {n : Counts} → n ≡ counted_on t.counts turned → {r : Progress} → r ≡ progress_of v n handed t.counts.made.actions → r ≡ turned_on t y
 unfolding turned_on
 moves_on t k c e = e ∙ rw (k.unit, c, k.told, k.actions) refl
 
--- A command that was read and is known: e is what carrying it out came to, m the unit after that, and g the registers that are left.
-module _ (t : Progress) (x : Command) (opcode : ℕ) {m : ItsState} (after : m ≡ stepped t.unit x) where
-  acted_in : (e : Executed) → (turned_in e opcode).acted ≡ acts (handed_in e)
-  acted_in (NotDone why) = refl
-  acted_in Done = refl
-  acted_in (Acted a) = refl
+-- A command that was read and is known, carried out.
+module _ (t : Progress) (x : Command) (opcode : ℕ) {a : Applied} (done : a ≡ execution t.unit x) where
+  pub halts_on : {why : Refusal} → a.executed ≡ Err why → {r : Progress} → r ≡ turned_on t (stays why opcode) → r ≡ turned_on t (judged (check t.unit x) x opcode)
+  halts_on came e = e ∙ ap (turned_on t) (sym (told_refused t.unit x opcode (sym (ap (λ b. b.executed) done) ∙ came)).0)
 
-  turning_in : (e : Executed) → e ≡ executed t.unit x → {g : ItsRegisters} → g ≡ (if (turned_in e opcode).passed then past_command m.registers else m.registers) →
-      Turning t.unit (judged (check t.unit x) x opcode) (with_registers m g) (turned_in e opcode) (handed_in e)
-  turning_in (NotDone why) k p = rw p (is_refused t.unit x opcode after k refl)
-  turning_in Done k p = rw p (is_done t.unit x opcode after refl k refl)
-  turning_in (Acted a) k p = rw p (is_acted t.unit x opcode after refl k refl)
+  turning_in : (o : Option ItsAction) → Ok o ≡ executed t.unit x → {v : ItsState} → v ≡ with_registers a.unit (past_command a.unit.registers) →
+      Turning t.unit (judged (check t.unit x) x opcode) v (passing (is_some o)) (list_of o)
+  turning_in None came p = is_done t.unit x opcode (ap (λ b. b.unit) done) p came refl
+  turning_in (Some a) came p = is_acted t.unit x opcode (ap (λ b. b.unit) done) p came refl
 
-  stands_in : Stands m → (passed : Bool) {g : ItsRegisters} → g ≡ (if passed then past_command m.registers else m.registers) → Stands (with_registers m g)
-  stands_in h true p = rw p (stands_past m refl)
-  stands_in h false p = rw p h
+  first_is : (o : Option ItsAction) → first_of (list_of o) ≡ o
+  first_is None = refl
+  first_is (Some a) = refl
 
-  module _ {e : Executed} (came : e ≡ executed t.unit x) {turned : Turned} (told : turned ≡ turned_in e opcode) {g : ItsRegisters}
-      (read : g ≡ (if turned.passed then past_command m.registers else m.registers)) where
-    pub carried_stands : Stands t.unit → Stands (with_registers m g)
-    carried_stands h = stands_in (stands_stepped t.unit x h after) turned.passed read
-
-    pub carried_on : {n : Counts} → n ≡ counted_on t.counts turned → {action : ItsAction} → action ≡ first_of (handed_in e) → {r : Progress} →
-        r ≡ progress_with (with_registers m g) n turned.acted action t.counts.actions → r ≡ turned_on t (judged (check t.unit x) x opcode)
-    carried_on c a s =
-        moves_on t (turning_in e came (read ∙ ap (λ y. if y.passed then past_command m.registers else m.registers) told)) (c ∙ ap (counted_on t.counts) told)
-        (s ∙ rw (a, told, acted_in e) refl)
-
--- The end: a refused command sets Stalled in strict, and nothing else changes.
-module _ (t : Progress) where
-  stalled_by : (b : Bool) →
-      (b && is_strict t.unit.config.profile || t.unit.registers.stalled) ≡ (if b then stall t.unit else t.unit).registers.stalled
-  unfolding stall
-  stalled_by true = refl
-  stalled_by false = refl
-
-  pub stalls_so : {b : Bool} → b ≡ is_halted t.counts.stopped → (b && is_strict t.unit.config.profile || t.unit.registers.stalled) ≡ (finish_of t).unit.registers.stalled
-  stalls_so e = rw e (stalled_by (is_halted t.counts.stopped))
-
-  unit_by_lem : (b : Bool) → unit_stalled t.unit (if b then stall t.unit else t.unit).registers.stalled ≡ (if b then stall t.unit else t.unit)
-  unfolding stall
-  unit_by_lem true = refl
-  unit_by_lem false = refl
-
-  pub finishes_so : {b : Bool} → b ≡ (finish_of t).unit.registers.stalled → record { unit = unit_stalled t.unit b; answer = t.answer } ≡ finish_of t
-  finishes_so e = rw e (ap (λ u. record { unit = u; answer = t.answer }) (unit_by_lem (is_halted t.counts.stopped)))
+  pub passes_on : {o : Option ItsAction} → a.executed ≡ Ok o → {g : ItsRegisters} → g ≡ past_command a.unit.registers → {acted : Bool} → acted ≡ is_some o →
+      {n : Counts} → n ≡ counted_on t.counts (passing acted) → {r : Progress} → r ≡ progress_with (with_registers a.unit g) n o t.counts.made.actions →
+      r ≡ turned_on t (judged (check t.unit x) x opcode)
+  passes_on {o = o} came {g = g} p k {n = n} c e =
+      moves_on t (turning_in o (sym came ∙ ap (λ b. b.executed) done) (ap (with_registers a.unit) p)) (c ∙ ap (λ b. counted_on t.counts (passing b)) k)
+      (e ∙ ap (λ y. progress_with (with_registers a.unit g) n y t.counts.made.actions) (sym (first_is o)))
 
 -- Between two turns of a write that began as t₀ with the row row₀: t is the write now, and row the row.
 
+-- any record, which a lemma on rows asks for
+any_action : ItsAction
+any_action = record { target = record { 0 = 0 }; lpi = record { 0 = 0 }; pending = false }
+
 -- the row after the turn that led to t
 abbrev pub laid : Progress → List ItsAction → List ItsAction
-laid t row = if t.acted then set row t.at t.action else row
+laid t row = if_found t.action (λ a. set row t.at a) row
 
 module _ (w : Window) (t₀ : Progress) (row₀ : List ItsAction) where
   pub record Counted (t : Progress) (row : List ItsAction) : Type 0 where
-    pub runs : t₀.more ≡ true
+    pub runs : goes_on t₀ ≡ true
     pub begun_so : Begun t₀ (length row₀)
     pub made : List ItsAction
     pub counting : Counting w t₀.counts.left t₀.unit t.unit t.counts made
@@ -122,13 +98,13 @@ module _ (w : Window) (t₀ : Progress) (row₀ : List ItsAction) where
 
   pub data Running : Progress → List ItsAction → Type 0 where
     -- nothing runs
-    quiet : {t : Progress} {row : List ItsAction} → t₀.more ≡ false → t ≡ t₀ → row ≡ row₀ → Running t row
+    quiet : {t : Progress} {row : List ItsAction} → goes_on t₀ ≡ false → t ≡ t₀ → row ≡ row₀ → Running t row
     -- the queue runs
     counted : {t : Progress} {row : List ItsAction} → Counted t row → Running t row
 
   pub running_begins : Begun t₀ (length row₀) → Running t₀ row₀
   running_begins b =
-      cases t₀.more
+      cases (goes_on t₀)
       (λ h. let is = b.starts h in
       counted (record {
         runs = h;
@@ -142,14 +118,14 @@ module _ (w : Window) (t₀ : Progress) (row₀ : List ItsAction) where
       }))
       (λ h. quiet h refl refl)
 
-  module _ {t : Progress} {row : List ItsAction} (more : t.more ≡ true) where
+  module _ {t : Progress} {row : List ItsAction} (more : goes_on t ≡ true) where
     as_counted : Running t row → Counted t row
-    as_counted (quiet h e l) = never t.more more (ap (λ s. s.more) e ∙ h)
+    as_counted (quiet h e l) = never (goes_on t) more (ap goes_on e ∙ h)
     as_counted (counted g) = g
 
     module _ (g : Counted t row) where
       left_over : 0 < t.counts.left
-      left_over = ltb-true 0 t.counts.left (sym (ap (λ s. s.more) g.is) ∙ more)
+      left_over = ltb-true 0 t.counts.left more
 
       few : t₀.counts.left ≤ 1024
       few = g.begun_so.few g.runs
@@ -168,18 +144,18 @@ module _ (w : Window) (t₀ : Progress) (row₀ : List ItsAction) where
 
       -- a turn y
       module _ (y : Turn) (is-turn : turn w t.unit ≡ y) where
-        has_room : t.counts.actions < length row
+        has_room : t.counts.made.actions < length row
         has_room = omega (arith, long, left_over, room w g.counting, g.begun_so.room_left g.runs)
 
-        laid_is : (l : List ItsAction) → (if acts l then set row t.counts.actions (first_of l) else row) ≡ row_past (λ a. a) l t.counts.actions row
+        laid_is : (l : List ItsAction) → if_found (first_of l) (λ a. set row t.counts.made.actions a) row ≡ row_past (λ a. a) l t.counts.made.actions row
         laid_is [] = refl
         laid_is (a ∷ l) = refl
 
-        row_so : (l : List ItsAction) → length l ≤ 1 → (if acts l then set row t.counts.actions (first_of l) else row) ≡ row_of (λ a. a) (g.made ++ l) row₀
+        row_so : (l : List ItsAction) → length l ≤ 1 → if_found (first_of l) (λ a. set row t.counts.made.actions a) row ≡ row_of (λ a. a) (g.made ++ l) row₀
         row_so l h =
             laid_is l
-            ∙ (ap (row_past (λ a. a) l t.counts.actions) g.rows
-            ∙ row_on (λ a. a) no_action g.made row₀ t.counts.actions l h g.counting.counted (omega (arith, long, has_room)))
+            ∙ (ap (row_past (λ a. a) l t.counts.made.actions) g.rows
+            ∙ row_on (λ a. a) any_action g.made row₀ t.counts.made.actions l h g.counting.counted (omega (arith, long, has_room)))
 
         next : Counted (turned_on t y) (laid (turned_on t y) row)
         unfolding turned_on
@@ -190,7 +166,7 @@ module _ (w : Window) (t₀ : Progress) (row₀ : List ItsAction) where
               made = g.made ++ handed_by t.unit y;
               counting = turns w g.counting left_over y is-turn;
               handed = handed_by t.unit y;
-              at_place = t.counts.actions;
+              at_place = t.counts.made.actions;
               is = refl;
               rows = row_so (handed_by t.unit y) (one_by t.unit y);
             }
@@ -205,9 +181,9 @@ module _ (w : Window) (t₀ : Progress) (row₀ : List ItsAction) where
 
     -- what the loop's step is told
     module _ (so_far : Running t row) where
-      module _ {c : CommandRead} (read : c ≡ command_read w t.wanted) where
-        wanted_is : c ≡ command_read w (command_address t.unit.registers t.unit.registers.creadr)
-        wanted_is = read ∙ ap (λ s. command_read w s.wanted) (as_counted so_far).is
+      module _ {c : Option (List ℕ)} (read : c ≡ command_at w t.wanted) where
+        wanted_is : c ≡ command_at w (command_address t.unit.registers t.unit.registers.creadr)
+        wanted_is = read ∙ ap (λ s. command_at w s.wanted) (as_counted so_far).is
 
         the_turn : turn w t.unit ≡ turn_read t.unit c
         the_turn = turn_reads w t.unit wanted_is
@@ -216,11 +192,11 @@ module _ (w : Window) (t₀ : Progress) (row₀ : List ItsAction) where
           on : Running r (laid r row)
           on = rw turned (counted (next (as_counted so_far) (turn_read t.unit c) the_turn))
 
-          pub running_stored : r.acted ≡ true → Running r (set row r.at r.action)
-          running_stored h = subst (λ b. Running r (if b then set row r.at r.action else row)) h on
+          pub running_stored : {a : ItsAction} → r.action ≡ Some a → Running r (set row r.at a)
+          running_stored h = subst (λ o. Running r (if_found o (λ a. set row r.at a) row)) h on
 
-          pub running_kept : r.acted ≡ false → Running r row
-          running_kept h = subst (λ b. Running r (if b then set row r.at r.action else row)) h on
+          pub running_kept : r.action ≡ None → Running r row
+          running_kept h = subst (λ o. Running r (if_found o (λ a. set row r.at a) row)) h on
 
           pub running_less : r.counts.left < t.counts.left
           running_less = rw turned (less (as_counted so_far) (turn_read t.unit c) the_turn)
@@ -229,10 +205,10 @@ module _ (w : Window) (t₀ : Progress) (row₀ : List ItsAction) where
           running_placed = rw turned (placed (as_counted so_far) (turn_read t.unit c) the_turn)
 
   -- the end
-  module _ {t : Progress} {row : List ItsAction} (over : t.more ≡ false) where
+  module _ {t : Progress} {row : List ItsAction} (over : goes_on t ≡ false) where
     end_counted : Counted t row → (finish_of t ≡ (end_of w t₀ row₀).written) × (row ≡ (end_of w t₀ row₀).row)
     end_counted g =
-        let none_left : t.counts.left ≡ 0 = omega (arith, ltb-false 0 t.counts.left (sym (ap (λ s. s.more) g.is) ∙ over)) in
+        let none_left : t.counts.left ≡ 0 = omega (arith, ltb-false 0 t.counts.left over) in
         let q = run w t₀.counts.left t₀.unit in
         let unit : (finish_of t).unit ≡ (halting q).unit = left_ends w g.counting none_left in
         let answer : t.answer ≡ (after_run (halting q) row₀).written.answer =

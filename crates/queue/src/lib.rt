@@ -3,29 +3,24 @@
 // store the action.
 #![tactic(auto)]
 
-ghost use Rattle.std.specs.Prelude.{◌≡◌, [], ◌<◌, length, if◌then◌else◌};
+ghost use Rattle.std.specs.Prelude.{◌≡◌, [], ◌<◌, length};
 ghost use Rattle.model.specs.Config.{queue_size};
 ghost use Rattle.model.specs.Step.{check};
 ghost use Rattle.model.specs.Queue.{Stands, waiting as waitingOf, stays, judged, past_command, may_run};
 ghost use Rattle.decoding.specs.Reading.{lent};
-ghost use Rattle.queue.specs.Ongoing.{Ready, Begun, no_action, first_of, progress_with, progress_of, first_counts, start_of, settled_of, turned_in, handed_in, turned_on, turn_of, finish_of, end_of};
+ghost use Rattle.queue.specs.Ongoing.{Ready, Begun, goes_on, progress_with, first_counts, start_of, settled_of, turned_on, turn_of, finish_of, end_of};
 
-use answers::{Counts, Stopped, Turned};
-use decoding::CommandRead;
-use model::{
-    Command, Decoded, Executed, GicVcpuId, ItsAction, ItsConfig, ItsRegisters, ItsState, LpiId,
-    Refusal, WriteAnswer, Written,
-};
+use answers::{Counts, Halt, Stopped};
+use model::{Command, ItsAction, ItsConfig, ItsRegisters, ItsState, Refusal, WriteAnswer, Written};
 use window::GuestWindow;
 
-// A write between two commands of its run: whether to go on, the action of the last command and its place in the row, the guest address of the command
+// A write between two commands of its run: the action of the last command, if it made one, and its place in the row, the guest address of the command
 // on which CREADR stands, the counts, the answer if nothing more is done, and the unit.
+// Stays: what `Ready` and `Stands` say is no ghost field. The model's own values of this type, as `start_of` of any unit, would each need a proof of it.
 #[derive(Clone, Copy)]
 pub struct Progress {
-    pub more: bool,
-    pub acted: bool,
+    pub action: Option<ItsAction>,
     pub at: usize,
-    pub action: ItsAction,
     pub wanted: u64,
     pub counts: Counts,
     pub answer: WriteAnswer,
@@ -41,47 +36,20 @@ fn waiting(registers: ItsRegisters) -> u64
     words::queue_distance(registers.creadr, registers.cwriter, size) / 32
 }
 
-fn no_action() -> ItsAction
-    ensures { result ≡ no_action }
-{
-    ItsAction {
-        target: GicVcpuId(0),
-        lpi: LpiId(0),
-        pending: false,
-    }
-}
-
 // The unit and the counts after a turn, with its action.
-fn stand(unit: ItsState, counts: Counts, acted: bool, action: ItsAction, at: usize) -> Progress
+fn stand(unit: ItsState, counts: Counts, action: Option<ItsAction>, at: usize) -> Progress
     requires { Stands unit }
-    ensures { result ≡ progress_with unit counts acted action at }
+    ensures { result ≡ progress_with unit counts action at }
 {
-    let registers = unit.registers;
-    let base = words::queue_base(registers.cbaser);
-    let wanted = base + registers.creadr;
-    let answer = answers::answer_of(counts, registers.creadr);
-    let n = counts;
-    let a = action;
-    let u = unit;
+    let creadr = unit.registers.creadr;
     Progress {
-        more: 0 < n.left,
-        acted: acted,
-        at: at,
-        action: a,
-        wanted: wanted,
-        counts: n,
-        answer: answer,
-        unit: u,
+        action,
+        at,
+        wanted: words::queue_base(unit.registers.cbaser) + creadr,
+        counts,
+        answer: counts.answer(creadr),
+        unit,
     }
-}
-
-// The same after a turn that made no action.
-fn quiet(unit: ItsState, counts: Counts, at: usize) -> Progress
-    requires { Stands unit }
-    ensures { result ≡ progress_of unit counts [] at }
-{
-    let action = no_action();
-    stand(unit, counts, false, action, at)
 }
 
 // The queue runs in an enabled unit; in strict only where CBASER's bit 63 is set and the unit is not stalled.
@@ -90,182 +58,139 @@ fn may_run(config: ItsConfig, registers: ItsRegisters) -> bool
     ensures { result ≡ may_run config registers }
 {
     let valid = registers.cbaser / 0x8000_0000_0000_0000 % 2;
-    let held = (config.profile == 1) & ((valid == 0) | registers.stalled);
-    registers.enabled & !held
+    let held = config.profile == 1 && (valid == 0 || registers.stalled);
+    registers.enabled && !held
 }
 
+#[tactic(auto, unfolding(crate::specs::Ongoing::first_counts))]
 fn first_counts(unit: ItsState) -> Counts
     ensures { result ≡ first_counts unit }
 {
-    let config = unit.config;
-    let registers = unit.registers;
-    if !may_run(config, registers) {
-        return Counts {
-            left: 0,
-            done: 0,
-            actions: 0,
-            stopped: Stopped::Ended,
-        };
+    if !may_run(unit.config, unit.registers) {
+        return Counts::begun(0);
     }
-    let count = waiting(registers);
-    let budget = config.command_budget as u64;
+    let count = waiting(unit.registers);
+    let budget = u64::from(unit.config.command_budget);
     if budget < count {
         return Counts {
-            left: 0,
-            done: 0,
-            actions: 0,
             stopped: Stopped::Over,
+            ..Counts::begun(0)
         };
     }
-    Counts {
-        left: count,
-        done: 0,
-        actions: 0,
-        stopped: Stopped::Ended,
-    }
+    Counts::begun(count)
 }
 
 // A queue that may run is run: 5 is tested once.
+#[tactic(auto, unfolding(crate::specs::Ongoing::start_of))]
 pub fn start(unit: ItsState) -> Progress
     requires { Stands unit }
     ensures { result ≡ start_of unit }
 {
     let counts = first_counts(unit);
-    quiet(unit, counts, 0)
-}
-
-// The command on which CREADR stands is refused: CREADR stays, and nothing is left to do.
-fn halt(t: Progress, why: Refusal, opcode: u8) -> Progress
-    requires { Ready t }
-    ensures { result ≡ turned_on t (stays why opcode) }
-{
-    let unit = t.unit;
-    let counts = t.counts;
-    let turned = answers::stays(why, opcode);
-    let next = answers::counted(counts, turned);
-    quiet(unit, next, counts.actions)
-}
-
-// What a command that came to this makes of the run, and the action that it hands over.
-fn turned_by(e: Executed, opcode: u8) -> Turned
-    ensures { result ≡ turned_in e opcode }
-{
-    match e {
-        Executed::NotDone(why) => answers::stays(why, opcode),
-        Executed::Done => answers::passes(false),
-        Executed::Acted(_) => answers::passes(true),
-    }
-}
-
-fn action_of(e: Executed) -> ItsAction
-    ensures { result ≡ first_of (handed_in e) }
-{
-    match e {
-        Executed::NotDone(_) => no_action(),
-        Executed::Done => no_action(),
-        Executed::Acted(a) => a,
-    }
-}
-
-// CREADR passes a command that was carried out.
-fn pass_command(registers: ItsRegisters, passed: bool) -> ItsRegisters
-    requires { registers.creadr < queue_size registers.cbaser }
-    ensures { result ≡ (if passed then past_command registers else registers) }
-{
-    if !passed {
-        return registers;
-    }
-    let size = words::queue_size(registers.cbaser);
-    let next = registers.creadr + 32;
-    let mut left = registers;
-    left.creadr = next % size;
-    left
-}
-
-// A command that was read, carried out.
-fn carry_out(t: Progress, x: Command, opcode: u8) -> Progress
-    requires { Ready t }
-    ensures { result ≡ turned_on t (judged (check t.unit x) x opcode) }
-{
-    let unit = t.unit;
-    let counts = t.counts;
-    let applied = command::execute(unit, x);
-    let e = applied.executed;
-    let turned = turned_by(e, opcode);
-    let next = answers::counted(counts, turned);
-    let action = action_of(e);
-    let mut left = applied.unit;
-    let registers = pass_command(left.registers, turned.passed);
-    left.registers = registers;
-    stand(left, next, turned.acted, action, counts.actions)
-}
-
-// One command.
-pub fn turn(t: Progress, c: CommandRead) -> Progress
-    requires { Ready t }
-    ensures { result ≡ turn_of t c }
-{
-    if !c.read {
-        return halt(t, Refusal::NotInWindow, 0);
-    }
-    let words = c.words;
-    let opcode = words::opcode(words);
-    let Decoded::Known(x) = decoding::decode(words) else {
-        return halt(t, Refusal::OpcodeUnknown, opcode);
-    };
-    carry_out(t, x, opcode)
+    stand(unit, counts, None, 0)
 }
 
 // A write whose queue is not to run: the unit that it leaves, and its answer.
 pub fn settled(unit: ItsState, answer: WriteAnswer) -> Progress
     ensures { result ≡ settled_of unit answer }
 {
-    let u = unit;
-    let a = answer;
-    let action = no_action();
-    let none = Counts {
-        left: 0,
-        done: 0,
-        actions: 0,
-        stopped: Stopped::Ended,
-    };
     Progress {
-        more: false,
-        acted: false,
+        action: None,
         at: 0,
-        action: action,
         wanted: 0,
-        counts: none,
-        answer: a,
-        unit: u,
+        counts: Counts::begun(0),
+        answer,
+        unit,
     }
 }
 
-// In strict a refused command stalls the unit.
-fn is_stalled(t: Progress) -> bool
-    ensures { result ≡ (finish_of t).unit.registers.stalled }
+// CREADR passes a command that was carried out.
+fn pass_command(registers: ItsRegisters) -> ItsRegisters
+    requires { registers.creadr < queue_size registers.cbaser }
+    ensures { result ≡ past_command registers }
 {
-    let unit = t.unit;
-    let counts = t.counts;
-    let stopped = counts.stopped;
-    let halted = answers::is_halted(stopped);
-    halted & (unit.config.profile == 1) | unit.registers.stalled
+    let size = words::queue_size(registers.cbaser);
+    let next = registers.creadr + 32;
+    ItsRegisters {
+        creadr: next % size,
+        ..registers
+    }
 }
 
-pub fn finish(t: Progress) -> Written
-    ensures { result ≡ finish_of t }
-{
-    let stalled = is_stalled(t);
-    let mut unit = t.unit;
-    unit.registers.stalled = stalled;
-    let answer = t.answer;
-    Written {
-        unit: unit,
-        answer: answer,
+impl Progress {
+    // Whether a command is left.
+    fn goes_on(&self) -> bool
+        ensures { result ≡ goes_on self.now }
+    {
+        0 < self.counts.left
+    }
+
+    // The command on which CREADR stands is refused: CREADR stays, and nothing is left to do.
+    #[tactic(auto, unfolding(crate::specs::Ongoing::turned_on))]
+    fn halt(self, why: Halt) -> Progress
+        requires { Ready self }
+        ensures { result ≡ turned_on self (stays why.refusal why.opcode) }
+    {
+        let next = self.counts.counted(Err(why));
+        stand(self.unit, next, None, self.counts.made.actions)
+    }
+
+    // A command that was read, carried out.
+    #[tactic(auto, using(model::proofs::RunLaws::stands_stepped))]
+    fn carry_out(self, x: Command, opcode: u8) -> Progress
+        requires { Ready self }
+        ensures { result ≡ turned_on self (judged (check self.unit x) x opcode) }
+    {
+        let applied = command::execute(self.unit, x);
+        match applied.executed {
+            Err(refusal) => self.halt(Halt { refusal, opcode }),
+            Ok(action) => {
+                let next = self.counts.counted(Ok(action.is_some()));
+                let mut unit = applied.unit;
+                unit.registers = pass_command(unit.registers);
+                stand(unit, next, action, self.counts.made.actions)
+            }
+        }
+    }
+
+    // One command.
+    #[tactic(auto, using(decoding::proofs::Turning::unread, decoding::proofs::Turning::unknown, decoding::proofs::Turning::known))]
+    pub fn turn(self, words: Option<[u64; 4]>) -> Progress
+        requires { Ready self }
+        ensures { result ≡ turn_of self words }
+    {
+        let Some(words) = words else {
+            return self.halt(Halt::unread(Refusal::NotInWindow));
+        };
+        let opcode = words::opcode(words);
+        match decoding::decode(words) {
+            Ok(x) => self.carry_out(x, opcode),
+            Err(_) => self.halt(Halt {
+                refusal: Refusal::OpcodeUnknown,
+                opcode,
+            }),
+        }
+    }
+
+    // The end: in strict a refused command stalls the unit.
+    #[tactic(auto, unfolding(model::specs::Queue::stall))]
+    pub fn finish(self) -> Written
+        ensures { result ≡ finish_of self }
+    {
+        let halted = self.counts.stopped.is_halted();
+        let mut unit = self.unit;
+        if halted && unit.config.profile == 1 {
+            unit.registers.stalled = true;
+        }
+        Written {
+            unit,
+            answer: self.answer,
+        }
     }
 }
 
 // The waiting commands of a write, at most as many as the budget, each in turn; the row gets their actions, the first first.
+#[tactic(auto, using(crate::proofs::Ongoing::running_begins, crate::proofs::Ongoing::running_stored, crate::proofs::Ongoing::running_kept, crate::proofs::Ongoing::running_ends))]
 pub fn process_commands<'w, 'r>(
     begun: Progress,
     window: GuestWindow<'w>,
@@ -276,12 +201,12 @@ pub fn process_commands<'w, 'r>(
         × (row.new ≡ (end_of (lent window.entry.address window.entry.bytes.now) begun row.old).row) }
 {
     let mut t = begun;
-    while t.more {
-        let c = window::read_command(window, t.wanted);
-        t = turn(t, c);
-        if t.acted {
-            window::store_action(row, t.at, t.action);
+    // Stays: no range counts the turns. A command that is refused leaves none to do, and `counted` says so of the counts.
+    while t.goes_on() {
+        t = t.turn(window::read_command(window, t.wanted));
+        if let Some(action) = t.action {
+            window::store_action(row, t.at, action);
         }
     }
-    finish(t)
+    t.finish()
 }

@@ -1,3 +1,1 @@
-pub mod Left
-pub mod Offsets
-pub mod Stores
+pub mod Searches

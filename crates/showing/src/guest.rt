@@ -1,5 +1,5 @@
 // The guest's page of commands, the unit of document 01's example, and the calls of its host.
-ghost use Rattle.std.specs.Prelude.{◌≡◌};
+ghost use Rattle.std.specs.Prelude.{◌≡◌, ◌+◌, ◌≤◌};
 ghost use Rattle.model.specs.Corners.{with_limit, fresh as fresh_of};
 ghost use Rattle.its.specs.Promises.{WritesLent};
 ghost use Rattle.showing.specs.Guest.{ring_in, set_to, enabled_with, example_with};
@@ -24,21 +24,10 @@ pub const CREADR: u64 = 0x90;
 
 pub const BASER: u64 = 0x100;
 
-fn low(word: u64) -> u8 {
-    (word % 256) as u8
-}
-
-fn put_word(page: &mut [u8; 4096], at: usize, word: u64) {
-    if at < 4088 {
-        page[at] = low(word);
-        page[at + 1] = low(word / 0x100);
-        page[at + 2] = low(word / 0x1_0000);
-        page[at + 3] = low(word / 0x100_0000);
-        page[at + 4] = low(word / 0x1_0000_0000);
-        page[at + 5] = low(word / 0x100_0000_0000);
-        page[at + 6] = low(word / 0x1_0000_0000_0000);
-        page[at + 7] = low(word / 0x100_0000_0000_0000);
-    }
+fn put_word(page: &mut [u8; 4096], at: usize, word: u64)
+    requires { at + 8 ≤ 4096 }
+{
+    page[at..at + 8].copy_from_slice(&word.to_le_bytes());
 }
 
 // The command of a number: its first three words. A page that holds 5 in every byte is all SYNC.
@@ -63,26 +52,22 @@ pub fn put_example(page: &mut [u8; 4096]) {
 pub fn config(limit: u32) -> ItsConfig
     ensures { result ≡ with_limit limit }
 {
-    let zero = GicVcpuId(0);
-    let one = GicVcpuId(1);
-    let mut processors = [zero; 16];
-    processors[1] = one;
+    let mut processors = [GicVcpuId(0); 16];
+    processors[1] = GicVcpuId(1);
     ItsConfig {
         lpi_limit: limit,
         command_budget: 64,
         frame_size: 65536,
         profile: 0,
         processor_count: 2,
-        processors: processors,
+        processors,
     }
 }
 
 pub fn fresh(limit: u32) -> ItsState
     ensures { result ≡ fresh_of limit }
 {
-    let configured = its::configure(config(limit));
-    let unit = configured.unit;
-    unit
+    its::configure(config(limit)).unit
 }
 
 // A write with the page as window and a row of so many records.
@@ -100,15 +85,15 @@ pub fn write(
 }
 
 // A write whose answer is not shown.
+#[tactic(auto, unfolding(crate::specs::Guest::set_to))]
 pub fn set(unit: ItsState, page: &[u8; 4096], offset: u64, width: u8, value: u64) -> ItsState
     ensures { result ≡ set_to page.now unit offset width value }
 {
-    let w = write(unit, page, 64, offset, width, value);
-    let left = w.unit;
-    left
+    write(unit, page, 64, offset, width, value).unit
 }
 
 // An enabled unit with its ring, before any command.
+#[tactic(auto, unfolding(crate::specs::Guest::enabled_with))]
 pub fn enabled(page: &[u8; 4096], limit: u32) -> ItsState
     ensures { result ≡ enabled_with page.now limit }
 {
@@ -118,6 +103,7 @@ pub fn enabled(page: &[u8; 4096], limit: u32) -> ItsState
 }
 
 // The unit after the example.
+#[tactic(auto, unfolding(crate::specs::Guest::example_with))]
 pub fn example(page: &[u8; 4096]) -> ItsState
     ensures { result ≡ example_with page.now }
 {
@@ -125,47 +111,38 @@ pub fn example(page: &[u8; 4096]) -> ItsState
     set(unit, page, CWRITER, 8, 128)
 }
 
-pub fn reads(
-    sheet: &mut Sheet,
-    what: &[u8],
-    unit: ItsState,
-    offset: u64,
-    width: u8,
-    expected: Line,
-) {
-    let answer = its::read_its(unit, offset, width);
-    let came = text::lines::of_read(answer);
-    crate::show::show(sheet, what, came, expected);
-}
+impl Sheet {
+    pub fn reads(&mut self, what: &str, unit: ItsState, offset: u64, width: u8, expected: Line<2>) {
+        let answer = its::read_its(unit, offset, width);
+        self.show(what, text::lines::of_read(answer), expected);
+    }
 
-pub fn writes(
-    sheet: &mut Sheet,
-    what: &[u8],
-    unit: ItsState,
-    page: &[u8; 4096],
-    offset: u64,
-    value: u64,
-    expected: Line,
-) -> ItsState
-    ensures { result ≡ set_to page.now unit offset 8 value }
-{
-    let w = write(unit, page, 64, offset, 8, value);
-    let answer = w.answer;
-    let came = text::lines::of_write(answer);
-    crate::show::show(sheet, what, came, expected);
-    let left = w.unit;
-    left
-}
+    #[tactic(auto, unfolding(crate::specs::Guest::set_to))]
+    pub fn writes(
+        &mut self,
+        what: &str,
+        unit: ItsState,
+        page: &[u8; 4096],
+        offset: u64,
+        value: u64,
+        expected: Line<5>,
+    ) -> ItsState
+        ensures { result ≡ set_to page.now unit offset 8 value }
+    {
+        let w = write(unit, page, 64, offset, 8, value);
+        self.show(what, text::lines::of_write(w.answer), expected);
+        w.unit
+    }
 
-pub fn translates(
-    sheet: &mut Sheet,
-    what: &[u8],
-    unit: ItsState,
-    device: u32,
-    event: u32,
-    expected: Line,
-) {
-    let answer = its::translate(unit, ItsDeviceId(device), EventId(event));
-    let came = text::lines::of_translation(answer);
-    crate::show::show(sheet, what, came, expected);
+    pub fn translates(
+        &mut self,
+        what: &str,
+        unit: ItsState,
+        device: u32,
+        event: u32,
+        expected: Line<3>,
+    ) {
+        let answer = its::translate(unit, ItsDeviceId(device), EventId(event));
+        self.show(what, text::lines::of_translation(answer), expected);
+    }
 }

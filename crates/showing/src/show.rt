@@ -5,6 +5,7 @@ ghost use Rattle.std.specs.Prelude.{◌≡◌, ◌∷◌, []};
 ghost use Rattle.model.specs.Trace.{line as lineWith};
 ghost use Rattle.text.specs.Laying.{line_of};
 
+use std::fmt::Display;
 use std::io;
 use std::io::Stdout;
 use text::Line;
@@ -29,164 +30,128 @@ impl Sheet {
         self.written
     }
 
-    fn print(&mut self, bytes: &[u8]) {
+    fn put(&mut self, what: impl Display + Drop) {
         if self.written.is_ok() {
-            self.written = self.to.write_all(bytes);
+            self.written = self.to.print(what);
         }
     }
 
-    fn print_decimal(&mut self, n: u64) {
-        if self.written.is_ok() {
-            self.written = self.to.print(n);
+    fn put_line<const N: usize>(&mut self, line: Line<N>) {
+        for byte in line.mark {
+            self.put(char::from(byte));
         }
+        for n in line.numbers {
+            self.put(' ');
+            self.put(n);
+        }
+    }
+
+    // A line above those of one unit.
+    pub fn heading(&mut self, what: &str) {
+        self.put(what);
+        self.put(":\n");
+    }
+
+    pub fn show<const M: usize, const N: usize>(
+        &mut self,
+        what: &str,
+        came: Line<M>,
+        expected: Line<N>,
+    ) {
+        self.put(what);
+        self.put(": ");
+        self.put_line(came);
+        self.put(", expected ");
+        self.put_line(expected);
+        if came.mark != expected.mark || came.numbers.as_slice() != expected.numbers.as_slice() {
+            self.put(", WRONG");
+        }
+        self.put('\n');
     }
 }
 
-pub fn rd(refusal: u64, value: u64) -> Line
+// Stays: these differ in a mark and in what their numbers are. One function of a mark and numbers would be the struct's own form, and name no number.
+pub fn rd(refusal: u64, value: u64) -> Line<2>
     ensures { line_of result ≡ lineWith "RD" (refusal ∷ value ∷ []) }
 {
     Line {
-        first: b'R',
-        second: b'D',
-        count: 2,
-        numbers: [refusal, value, 0, 0, 0],
+        mark: *b"RD",
+        numbers: [refusal, value],
     }
 }
 
-pub fn wr(refusal: u64, opcode: u64, offset: u64, done: u64, actions: u64) -> Line
+pub fn wr(refusal: u64, opcode: u64, offset: u64, done: u64, actions: u64) -> Line<5>
     ensures { line_of result ≡ lineWith "WR" (refusal ∷ opcode ∷ offset ∷ done ∷ actions ∷ []) }
 {
     Line {
-        first: b'W',
-        second: b'R',
-        count: 5,
+        mark: *b"WR",
         numbers: [refusal, opcode, offset, done, actions],
     }
 }
 
-pub fn tr(refusal: u64, lpi: u64, processor: u64) -> Line
+pub fn tr(refusal: u64, lpi: u64, processor: u64) -> Line<3>
     ensures { line_of result ≡ lineWith "TR" (refusal ∷ lpi ∷ processor ∷ []) }
 {
     Line {
-        first: b'T',
-        second: b'R',
-        count: 3,
-        numbers: [refusal, lpi, processor, 0, 0],
+        mark: *b"TR",
+        numbers: [refusal, lpi, processor],
     }
 }
 
-pub fn ac(processor: u64, lpi: u64, pending: u64) -> Line
+pub fn ac(processor: u64, lpi: u64, pending: u64) -> Line<3>
     ensures { line_of result ≡ lineWith "AC" (processor ∷ lpi ∷ pending ∷ []) }
 {
     Line {
-        first: b'A',
-        second: b'C',
-        count: 3,
-        numbers: [processor, lpi, pending, 0, 0],
+        mark: *b"AC",
+        numbers: [processor, lpi, pending],
     }
 }
 
-pub fn cf(refusal: u64) -> Line
+pub fn cf(refusal: u64) -> Line<1>
     ensures { line_of result ≡ lineWith "CF" (refusal ∷ []) }
 {
     Line {
-        first: b'C',
-        second: b'F',
-        count: 1,
-        numbers: [refusal, 0, 0, 0, 0],
+        mark: *b"CF",
+        numbers: [refusal],
     }
 }
 
 // What a command carried out by itself came to: the number of its refusal.
-pub fn ex(refusal: u64) -> Line
+pub fn ex(refusal: u64) -> Line<1>
     ensures { line_of result ≡ lineWith "EX" (refusal ∷ []) }
 {
     Line {
-        first: b'E',
-        second: b'X',
-        count: 1,
-        numbers: [refusal, 0, 0, 0, 0],
+        mark: *b"EX",
+        numbers: [refusal],
     }
 }
 
 // A record of a device: used, its number, its event bits.
-pub fn dv(used: u64, device: u64, bits: u64) -> Line
+pub fn dv(used: u64, device: u64, bits: u64) -> Line<3>
     ensures { line_of result ≡ lineWith "DV" (used ∷ device ∷ bits ∷ []) }
 {
     Line {
-        first: b'D',
-        second: b'V',
-        count: 3,
-        numbers: [used, device, bits, 0, 0],
+        mark: *b"DV",
+        numbers: [used, device, bits],
     }
 }
 
 // A record of a collection: used, its number, its processor.
-pub fn cl(used: u64, collection: u64, processor: u64) -> Line
+pub fn cl(used: u64, collection: u64, processor: u64) -> Line<3>
     ensures { line_of result ≡ lineWith "CL" (used ∷ collection ∷ processor ∷ []) }
 {
     Line {
-        first: b'C',
-        second: b'L',
-        count: 3,
-        numbers: [used, collection, processor, 0, 0],
+        mark: *b"CL",
+        numbers: [used, collection, processor],
     }
 }
 
 // A record of a pair of device 5: used, its event, its LPI, its collection.
-pub fn pr(used: u64, event: u64, lpi: u64, collection: u64) -> Line
+pub fn pr(used: u64, event: u64, lpi: u64, collection: u64) -> Line<4>
     ensures { line_of result ≡ lineWith "PR" (used ∷ event ∷ lpi ∷ collection ∷ []) }
 {
     Line {
-        first: b'P',
-        second: b'R',
-        count: 4,
-        numbers: [used, event, lpi, collection, 0],
+        mark: *b"PR",
+        numbers: [used, event, lpi, collection],
     }
-}
-
-fn same(a: Line, b: Line) -> bool {
-    let x = a.numbers;
-    let y = b.numbers;
-    let marks = (a.first == b.first) & (a.second == b.second);
-    let few = (x[0] == y[0]) & (x[1] == y[1]);
-    let more = (x[2] == y[2]) & ((x[3] == y[3]) & (x[4] == y[4]));
-    (marks & (a.count == b.count)) & (few & more)
-}
-
-fn print_number(sheet: &mut Sheet, there: bool, n: u64) {
-    if there {
-        sheet.print(b" ");
-        sheet.print_decimal(n);
-    }
-}
-
-fn print_line(sheet: &mut Sheet, line: Line) {
-    let mark = [line.first, line.second];
-    sheet.print(&mark);
-    let count = line.count;
-    let n = line.numbers;
-    print_number(sheet, 0 < count, n[0]);
-    print_number(sheet, 1 < count, n[1]);
-    print_number(sheet, 2 < count, n[2]);
-    print_number(sheet, 3 < count, n[3]);
-    print_number(sheet, 4 < count, n[4]);
-}
-
-// A line above those of one unit.
-pub fn heading(sheet: &mut Sheet, what: &[u8]) {
-    sheet.print(what);
-    sheet.print(b":\n");
-}
-
-pub fn show(sheet: &mut Sheet, what: &[u8], came: Line, expected: Line) {
-    sheet.print(what);
-    sheet.print(b": ");
-    print_line(sheet, came);
-    sheet.print(b", expected ");
-    print_line(sheet, expected);
-    if !same(came, expected) {
-        sheet.print(b", WRONG");
-    }
-    sheet.print(b"\n");
 }

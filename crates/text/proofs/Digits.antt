@@ -1,7 +1,7 @@
 -- Decimal digits: how many there are, and the digits stored one by one, the last first.
 -- Assumes nothing.
-use Prim.Native.Nat.{ℕ, zero, suc, ◌+◌, ◌-◌, ◌/◌, ◌%◌, ◌≤◌, ◌<◌}
-use native.Mathlib.Nat.{add-suc, le_of_lt}
+use Prim.Native.Nat.{ℕ, zero, ◌*◌, ◌^◌, suc, ◌+◌, ◌/◌, ◌%◌, ◌≤◌, ◌<◌}
+use native.Mathlib.Nat.{one-le-pow, add-suc, le_of_lt}
 use native.Mathlib.Omega.{arith}
 use mathlib.Core.Path.{◌≡◌, refl, sym, ◌∙◌}
 use mathlib.Core.List.{List, [], ◌∷◌}
@@ -12,18 +12,17 @@ use Rattle.model.specs.Trace.{digit_count, digits, decimal}
 use Rattle.text.specs.Laying.{laid_at}
 use Rattle.text.proofs.Places.{none}
 
--- to antt `suc k - 1` is not `k`
-minus_one : (k : ℕ) → suc k - 1 ≡ k
-minus_one k = omega arith
-
--- a number of two digits or more has one more than its tenth
-pub count_more : (f m : ℕ) → 0 < f → 10 ≤ m → digit_count f m ≡ suc (digit_count (f - 1) (m / 10))
-count_more zero m h k = absurd (omega arith)
-count_more (suc f) m h k = simp (le-leb 10 m k, minus_one)
-
-pub count_less : (f m : ℕ) → m < 10 → digit_count f m ≡ 1
-count_less zero m h = refl
-count_less (suc f) m h = simp (lt-leb 10 m h)
+-- a number between two powers of ten has a digit more than the lower one's exponent
+pub count_power : (f k n : ℕ) → k ≤ f → 10 ^ k ≤ n → n < 10 * 10 ^ k → digit_count f n ≡ k + 1
+count_power zero zero n h low high = refl
+count_power zero (suc k) n h low high = absurd (omega arith)
+count_power (suc f) zero n h low high = simp (lt-leb 10 n high)
+count_power (suc f) (suc k) n h low high =
+    let low' : 10 * 10 ^ k ≤ n = omega (arith, low) in
+    let high' : n < 10 * (10 * 10 ^ k) = omega (arith, high) in
+    let one : 0 < 10 ^ k = one-le-pow k 10 (omega arith) in
+    let two : 10 ≤ n = omega arith in
+    rw (le-leb 10 n two, count_power f k (n / 10) (omega arith) (omega arith) (omega arith)) (omega arith)
 
 pub digits_length : (k n : ℕ) → length (digits k n) ≡ k
 digits_length zero n = refl

@@ -1,15 +1,15 @@
 -- A line as the code hands it over, and an output line by line. No sentence of document 01 stands here: proofs/Fits.antt shows that lines laid one
 -- after the other come to what the model says of them.
 -- Assumes nothing.
-use Rattle.std.specs.Prelude.{ℕ, ◌+◌, ◌≡◌, true, false, List, [], ◌∷◌, ◌++◌, leb, length, take, drop, if◌then◌else◌}
+use Rattle.std.specs.Prelude.{ℕ, ◌+◌, ◌≡◌, true, false, List, [], ◌∷◌, ◌++◌, leb, length, take, drop, if◌then◌else◌, get_or}
 use Rattle.model.specs.Text.{ascii}
 use Rattle.model.specs.Trace.{spaced, space}
 use Rattle.text.specs.declared.Line.{Line}
 use Rattle.text.specs.declared.Laid.{Laid}
 
 -- the bytes of a line
-unfoldable pub line_of : Line → List ℕ
-line_of l = l.first ∷ l.second ∷ (spaced (take l.count l.numbers) ++ ascii "\n")
+unfoldable pub line_of : {N : ℕ} → Line N → List ℕ
+line_of l = get_or l.mark 0 0 ∷ get_or l.mark 1 0 ∷ (spaced l.numbers ++ ascii "\n")
 
 -- a list with the text t in it, from the place i on
 unfoldable pub laid_at : List ℕ → ℕ → List ℕ → List ℕ

@@ -7,5 +7,5 @@ use Rattle.model.specs.declared.ItsAction.{ItsAction}
 use Rattle.model.specs.Trace.{action_line}
 
 -- the lines of those that are left from the place i on
-abbrev pub left : ℕ → ℕ → List ItsAction → List (List ℕ)
-left i count row = map action_line (drop i (take count row))
+abbrev pub left : ℕ → List ItsAction → List (List ℕ)
+left i handed = map action_line (drop i handed)

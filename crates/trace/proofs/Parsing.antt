@@ -1,6 +1,6 @@
 -- The model's reading of a record: by its mark, and how much of the bytes a whole record takes.
 -- Assumes nothing.
-use Rattle.std.specs.Prelude.{if◌then◌else◌}
+use Rattle.std.specs.Prelude.{Option, None, Some, if◌then◌else◌}
 use Prim.Native.Nat.{ℕ, ◌+◌, ◌-◌, ◌*◌, ◌≤◌, ◌<◌}
 use Prim.Native.String.{String}
 use native.Mathlib.Omega.{arith}
@@ -14,19 +14,11 @@ use Rattle.model.specs.Text.{ascii}
 use Rattle.model.specs.Trace.{Record, CF, GM, RD, WR, TR, Parsed, whole, broken, number, config_read, window_in, sized, marked, parse}
 use Rattle.model.proofs.Cases.{cases}
 use Rattle.trace.specs.declared.Mark.{Mark}
-use Rattle.trace.specs.declared.Mark.TheVariants.{Cf, Gm, Rd, Wr, Tr, Bad}
-use Rattle.trace.specs.Marks.{mark_of, parsed_as}
-
--- the test of a mark, from the tests of its two bytes
-pub marked_is : (m : String) (l : List ℕ) (r t : Bool) → 2 ≤ length l → r ≡ (eqb (get_or l 0 0) (get_or (ascii m) 0 0) && eqb (get_or l 1 0) (get_or (ascii m) 1 0)) → r ≡ t → marked m l ≡ t
-marked_is m l r t h e k = rw (le-leb 2 (length l) h) (sym e ∙ k)
-
--- too few bytes for a mark
-pub marked_not : (m : String) (l : List ℕ) → length l < 2 → marked m l ≡ false
-marked_not m l h = rw (lt-leb 2 (length l) h)
+use Rattle.trace.specs.declared.Mark.TheVariants.{Cf, Gm, Rd, Wr, Tr}
+use Rattle.trace.specs.Marks.{mark_of, parsed_as, parsed_at}
 
 -- the model reads a record by its mark
-pub by_mark : (l : List ℕ) → parse l ≡ parsed_as (mark_of l) l
+pub by_mark : (l : List ℕ) → parse l ≡ parsed_at (mark_of l) l
 unfolding parse mark_of parsed_as
 by_mark l =
     cases (marked "CF" l) (λ t. rw t)
@@ -71,10 +63,13 @@ sound_as Gm l =
 sound_as Rd l = sound_sized l 11 (RD (number 2 8 l) (number 10 1 l)) (omega arith) tt
 sound_as Wr l = sound_sized l 19 (WR (number 2 8 l) (number 10 1 l) (number 11 8 l)) (omega arith) tt
 sound_as Tr l = sound_sized l 10 (TR (record { 0 = number 2 4 l }) (record { 0 = number 6 4 l })) (omega arith) tt
-sound_as Bad l = tt
+
+sound_at : (m : Option Mark) (l : List ℕ) → Sound l (parsed_at m l)
+sound_at None l = tt
+sound_at (Some m) l = sound_as m l
 
 pub sound : (l : List ℕ) → Sound l (parse l)
-sound l = rw by_mark (sound_as (mark_of l) l)
+sound l = rw by_mark (sound_at (mark_of l) l)
 
 -- The record after each mark: too short, and whole.
 sized_whole : (n : ℕ) (l : List ℕ) (r : Record) → n ≤ length l → sized n l r ≡ whole r n

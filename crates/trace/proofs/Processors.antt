@@ -5,6 +5,7 @@ use native.Mathlib.Nat.{add-zero}
 use native.Mathlib.Numerals.{add-one}
 use native.Mathlib.Omega.{arith}
 use mathlib.Core.Path.{◌≡◌, refl, sym, ◌∙◌, ap}
+use mathlib.Core.Logic.{◌⊎◌, inl, inr}
 use mathlib.Core.List.{List, [], ◌∷◌, ◌++◌, append-nil}
 use lib.ListN.{length, take, set, replicate}
 use lib.Seq.{take-append-le, take-append-add, append_snoc, set_at}
@@ -66,3 +67,8 @@ pub filled_first : (n : ℕ) (l : List ℕ) → 16 ≤ n → filled 16 l ≡ tak
 filled_first n l h =
     append-nil (numbers 16 16 l)
     ∙ sym (take-append-le 16 (numbers 16 n l) (replicate 16 none) (rw numbers_length h) ∙ take_numbers 16 16 n l h)
+
+-- as many as are taken
+pub filled_taken : (n k : ℕ) (l : List ℕ) → k ≤ 16 → k ≤ n → k ≡ n ⊎ (k ≡ 16) → filled k l ≡ take 16 (numbers 16 n l ++ replicate 16 none)
+filled_taken n k l h b (inl e) = filled_all k l h ∙ ap (λ m. take 16 (numbers 16 m l ++ replicate 16 none)) e
+filled_taken n k l h b (inr e) = ap (λ m. filled m l) e ∙ filled_first n l (rw e at b)

@@ -1,5 +1,6 @@
 -- The record whose mark is next, from what carrying out the record after that mark leaves.
 -- Assumes nothing.
+use Rattle.std.specs.Prelude.{Option, None, Some}
 use Prim.Native.Nat.{ℕ, ◌-◌}
 use native.Mathlib.Omega.{arith}
 use mathlib.Core.Path.{◌≡◌, sym, ◌∙◌}
@@ -8,9 +9,8 @@ use lib.ListN.{length, take, drop, length-drop}
 use lib.Seq.{take_all}
 use Rattle.model.specs.Trace.{broken, parse}
 use Rattle.trace.specs.declared.Mark.{Mark}
-use Rattle.trace.specs.declared.Mark.TheVariants.{Bad}
 use Rattle.trace.specs.declared.Run.{Run}
-use Rattle.trace.specs.Marks.{mark_of, parsed_as}
+use Rattle.trace.specs.Marks.{mark_of}
 use Rattle.trace.specs.Records.{stand, stand_after, CarriesRecord}
 use Rattle.trace.proofs.Parsing.{by_mark}
 
@@ -22,11 +22,12 @@ on_from_lem : (trace : List ℕ) (at : ℕ) → on_from trace at ≡ drop at tra
 on_from_lem trace at = take_all (length trace - at) (drop at trace) (rw length-drop (omega arith))
 
 pub stepped : (m : Mark) (trace out : List ℕ) (run : Run) (left : List ℕ) (r : Run)
-    (found : Mark) → found ≡ mark_of (on_from trace run.at) → found ≡ m → CarriesRecord m trace (on_from trace run.at) out run left r →
+    (found : Option Mark) → found ≡ mark_of (on_from trace run.at) → found ≡ Some m → CarriesRecord m trace (on_from trace run.at) out run left r →
     stand left r ≡ stand_after trace (stand out run) (parse (drop run.at trace))
 stepped m trace out run left r found f e h =
     rw (by_mark (drop run.at trace), sym (rw on_from_lem at f) ∙ e) (rw on_from_lem at h)
 
-pub bad : (trace bytes out : List ℕ) (run : Run) (left : List ℕ) (r : Run) → stand left r ≡ stand_after trace (stand out run) broken → CarriesRecord Bad trace bytes out run left r
-unfolding parsed_as
-bad trace bytes out run left r h = h
+-- what is no mark begins a record that is broken
+pub unmarked : (trace out : List ℕ) (run : Run) (left : List ℕ) (r : Run) (found : Option Mark) → found ≡ mark_of (on_from trace run.at) → found ≡ None →
+    stand left r ≡ stand_after trace (stand out run) broken → stand left r ≡ stand_after trace (stand out run) (parse (drop run.at trace))
+unmarked trace out run left r found f e h = rw (by_mark (drop run.at trace), sym (rw on_from_lem at f) ∙ e) h

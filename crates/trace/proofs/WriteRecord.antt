@@ -6,7 +6,7 @@ use mathlib.Core.List.{List, ◌∷◌, map}
 use lib.ListN.{length, take, drop}
 use Rattle.model.specs.declared.ItsState.{ItsState}
 use Rattle.model.specs.declared.ItsAction.{ItsAction}
-use Rattle.model.specs.declared.WriteAnswer.{WriteAnswer}
+use Rattle.model.specs.Answer.{WriteAnswer}
 use Rattle.model.specs.Refusal.{write_numbers}
 use Rattle.model.specs.Entry.{Outcome, write}
 use Rattle.model.specs.Trace.{number, write_line, action_line, lent_row, write_of}

@@ -14,18 +14,18 @@ use model::ItsState;
 use text::Laid;
 
 // The mark of a record.
-#[derive(Clone, Copy)]
+#[derive(Clone, Copy, Debug, PartialEq, Eq)]
 pub enum Mark {
     Cf,
     Gm,
     Rd,
     Wr,
     Tr,
-    Bad,
 }
 
 // The run between two records: how far the trace is read, how far the output is written, the window, which is a part of the trace and the guest
 // address of its first byte, and the unit.
+// Stays: the window is a place and a length, no plainer as a slice, whose lifetime every function here and in `inforce` would carry.
 #[derive(Clone, Copy)]
 pub struct Run {
     pub at: usize,
@@ -40,15 +40,13 @@ pub struct Run {
 pub fn start() -> Run
     ensures { result ≡ run_at_start }
 {
-    let unit = its::no_unit();
-    let laid = Laid { at: 0, full: false };
     Run {
         at: 0,
-        laid: laid,
+        laid: Laid { at: 0, full: false },
         address: 0,
         from: 0,
         size: 0,
-        unit: unit,
+        unit: its::no_unit(),
     }
 }
 
@@ -56,7 +54,7 @@ pub fn start() -> Run
 fn goes_on(at: usize, end: usize, laid: Laid) -> bool
     ensures { result ≡ goes_on at end laid }
 {
-    (at < end) & !laid.full
+    at < end && !laid.full
 }
 
 // 16 times the bytes written, plus 11 if a line did not fit.
@@ -81,6 +79,7 @@ pub fn run_trace(trace: &[u8], out: &mut [u8]) -> u64
 }
 
 // The same under the name of the C call, which crate `trace_c` exports.
+// Stays: the C interface has it under this name.
 pub fn its_trace(trace: &[u8], out: &mut [u8]) -> u64
     ensures { Traced trace.now out.old result out.new }
 {

@@ -10,23 +10,21 @@ use model::{EventId, ItsAction, ItsDeviceId, WriteAnswer};
 use text::{Laid, Line};
 
 // One line more, and the trace read up to a place.
-fn moved(out: &mut [u8], run: Run, at: usize, line: Line) -> Run
-    ensures { stand out.new result ≡ onward (stand out.old run) at (stretch_of run) run.unit (line_of line ∷ []) }
+fn moved<const N: usize>(out: &mut [u8], run: Run, at: usize, line: Line<N>) -> Run
+    ensures { stand out.new result ≡ onward (stand out.old run) at (stretch_of run) run.unit (line_of line.entry ∷ []) }
 {
-    let laid = run.laid;
-    let next = text::put_line(out, laid, line);
-    let mut r = run;
-    r.at = at;
-    r.laid = next;
-    r
+    Run {
+        at,
+        laid: text::put_line(out, run.laid, line),
+        ..run
+    }
 }
 
 // A bad mark, a short record or a long GM: its line is the last, for nothing is left to read.
 fn broken_off(trace: &[u8], out: &mut [u8], run: Run) -> Run
     ensures { stand out.new result ≡ stand_after trace.now (stand out.old run) broken }
 {
-    let line = text::lines::of_broken(run.at);
-    moved(out, run, trace.len(), line)
+    moved(out, run, trace.len(), text::lines::of_broken(run.at))
 }
 
 // CF starts a fresh unit and keeps the window.
@@ -44,13 +42,11 @@ fn configured(trace: &[u8], bytes: &[u8], out: &mut [u8], run: Run) -> Run
     }
     let config = crate::parts::config_in(bytes, count);
     let configured = its::configure(config);
-    let unit = configured.unit;
-    let verdict = configured.verdict;
-    let line = text::lines::of_configuration(verdict);
-    let end = run.at + size;
-    let mut r = moved(out, run, end, line);
-    r.unit = unit;
-    r
+    let line = text::lines::of_configuration(configured.verdict);
+    Run {
+        unit: configured.unit,
+        ..moved(out, run, run.at + size, line)
+    }
 }
 
 // GM replaces the window.
@@ -71,13 +67,12 @@ fn windowed(trace: &[u8], bytes: &[u8], out: &mut [u8], run: Run) -> Run
     }
     let address = crate::parts::number_at(bytes, 2, 8);
     let line = text::lines::of_window();
-    let end = run.at + whole;
-    let from = run.at + 14;
-    let mut r = moved(out, run, end, line);
-    r.address = address;
-    r.from = from;
-    r.size = size;
-    r
+    Run {
+        address,
+        from: run.at + 14,
+        size,
+        ..moved(out, run, run.at + whole, line)
+    }
 }
 
 // RD and TR change neither the unit nor the window.
@@ -90,11 +85,8 @@ fn read(trace: &[u8], bytes: &[u8], out: &mut [u8], run: Run) -> Run
     }
     let offset = crate::parts::number_at(bytes, 2, 8);
     let width = crate::parts::number_at(bytes, 10, 1) as u8;
-    let unit = run.unit;
-    let answer = its::read_its(unit, offset, width);
-    let line = text::lines::of_read(answer);
-    let end = run.at + 11;
-    moved(out, run, end, line)
+    let answer = its::read_its(run.unit, offset, width);
+    moved(out, run, run.at + 11, text::lines::of_read(answer))
 }
 
 fn translated(trace: &[u8], bytes: &[u8], out: &mut [u8], run: Run) -> Run
@@ -106,32 +98,18 @@ fn translated(trace: &[u8], bytes: &[u8], out: &mut [u8], run: Run) -> Run
     }
     let device = ItsDeviceId(crate::parts::number_at(bytes, 2, 4) as u32);
     let event = EventId(crate::parts::number_at(bytes, 6, 4) as u32);
-    let unit = run.unit;
-    let answer = its::translate(unit, device, event);
-    let line = text::lines::of_translation(answer);
-    let end = run.at + 10;
-    moved(out, run, end, line)
+    let answer = its::translate(run.unit, device, event);
+    moved(out, run, run.at + 10, text::lines::of_translation(answer))
 }
 
 // The line of a write, and one for each action that it hands over.
 fn put_written(out: &mut [u8], laid: Laid, answer: WriteAnswer, row: [ItsAction; 1024]) -> Laid
     ensures { output out.new result ≡ lay_all (output out.old laid) (write_line (write_numbers answer) ∷ map action_line (take (write_numbers answer).actions row)) }
 {
-    let line = text::lines::of_write(answer);
-    let mut next = text::put_line(out, laid, line);
-    let count = answers::handed(answer);
-    let mut i: usize = 0;
-    loop {
-        if 1024 <= i {
-            break;
-        }
-        if count <= i {
-            break;
-        }
-        let action = row[i];
-        let line = text::lines::of_action(action);
-        next = text::put_line(out, next, line);
-        i += 1;
+    let mut next = text::put_line(out, laid, text::lines::of_write(answer));
+    let handed = answers::handed(answer).min(row.len());
+    for action in &row[..handed] {
+        next = text::put_line(out, next, text::lines::of_action(*action));
     }
     next
 }
@@ -147,21 +125,14 @@ fn written(trace: &[u8], bytes: &[u8], out: &mut [u8], run: Run) -> Run
     let offset = crate::parts::number_at(bytes, 2, 8);
     let width = crate::parts::number_at(bytes, 10, 1) as u8;
     let value = crate::parts::number_at(bytes, 11, 8);
-    let from = run.from;
-    let end = from + run.size;
-    let window = &trace[from..end];
-    let unit = run.unit;
-    let w = its::write_lent(unit, run.address, window, 1024, offset, width, value);
-    let left = w.unit;
-    let answer = w.answer;
-    let row = w.row;
-    let laid = run.laid;
-    let next = put_written(out, laid, answer, row);
-    let mut r = run;
-    r.at = run.at + 19;
-    r.laid = next;
-    r.unit = left;
-    r
+    let window = &trace[run.from..run.from + run.size];
+    let w = its::write_lent(run.unit, run.address, window, 1024, offset, width, value);
+    Run {
+        at: run.at + 19,
+        laid: put_written(out, run.laid, w.answer, w.row),
+        unit: w.unit,
+        ..run
+    }
 }
 
 // The record whose mark is next.
@@ -169,15 +140,13 @@ pub fn step(trace: &[u8], out: &mut [u8], run: Run) -> Run
     requires { Within trace.now (drop run.at trace.now) run }
     ensures { stand out.new result ≡ stand_after trace.now (stand out.old run) (parse (drop run.at trace.now)) }
 {
-    let at = run.at;
-    let bytes = &trace[at..];
-    let mark = crate::parts::mark_at(bytes);
-    match mark {
-        Mark::Cf => configured(trace, bytes, out, run),
-        Mark::Gm => windowed(trace, bytes, out, run),
-        Mark::Rd => read(trace, bytes, out, run),
-        Mark::Wr => written(trace, bytes, out, run),
-        Mark::Tr => translated(trace, bytes, out, run),
-        Mark::Bad => broken_off(trace, out, run),
+    let bytes = &trace[run.at..];
+    match crate::parts::mark_at(bytes) {
+        Some(Mark::Cf) => configured(trace, bytes, out, run),
+        Some(Mark::Gm) => windowed(trace, bytes, out, run),
+        Some(Mark::Rd) => read(trace, bytes, out, run),
+        Some(Mark::Wr) => written(trace, bytes, out, run),
+        Some(Mark::Tr) => translated(trace, bytes, out, run),
+        None => broken_off(trace, out, run),
     }
 }

@@ -1,3 +1,2 @@
 pub mod LittleEndian
 pub mod Bits
-pub mod Offsets

@@ -20,7 +20,7 @@ returns c =
         unit = k.unit;
         row = k.row;
         row_reads = ap (map action_in) k.row ∙ made_reads (lent a.address a.bytes.now) a.row.now (unit_in s) (numbers_small s) a.offset a.width a.value;
-        told = retold (n.write_numbers-n.ensures ∙ ap numbers_of_write k.answer) c.tell.ensures;
+        told = retold (n.write_numbers.ensures ∙ ap numbers_of_write k.answer) c.tell.ensures;
       },
       k.alone,
     )

@@ -1,10 +1,13 @@
--- `host::processors_given` meets its contract. The invariant: the first i of the sixteen places are filled.
-use borrow.Author.Rules.{rules}
+-- One processor more, and at the end all of them, or sixteen.
 use native.Mathlib.Omega.{arith}
-use Prim.Native.Nat.{◌-◌, ◌≤◌}
+use Prim.Native.Nat.{◌≤◌}
 use mathlib.Core.Path.{◌≡◌, ◌∙◌}
+use mathlib.Core.Logic.{inl, inr}
+use lib.Dec.{leb}
 use lib.ListN.{length}
-use Rattle.host.proofs.Given.{filled, filled_more, filled_all, filled_first}
+use borrow.Author.Tests.{leb-true, leb-false}
+use Rattle.model.proofs.Cases.{cases}
+use Rattle.host.proofs.Given.{filled_more, filled_taken}
 use Rattle.host.proofs.processors_given.Goals as goal
 
 pub loop-i-preserved : goal.loop-i-preserved
@@ -13,15 +16,9 @@ loop-i-preserved c =
     let a = c.args in
     (rw h.invariant.0 (filled_more h.i a.numbers.now (omega arith) (omega arith)), omega arith, omega arith)
 
-pub returns-then-i-ge16 : goal.returns-then-i-ge16
-returns-then-i-ge16 c =
+pub returns : goal.returns
+returns c =
     let h = c.loop-i in
-    let a = c.args in
-    let all : h.i ≡ 16 = omega arith in
-    rw all at h.invariant.0 ∙ filled_first a.numbers.now (omega arith)
-
-pub returns-then-numbers-i : goal.returns-then-numbers-i
-returns-then-numbers-i c =
-    let h = c.loop-i in
-    let a = c.args in
-    h.invariant.0 ∙ filled_all h.i a.numbers.now (omega arith) (omega arith)
+    let n = length c.args.numbers.now in
+    h.invariant.0 ∙ filled_taken h.i c.args.numbers.now (omega arith) (omega arith)
+    (cases (leb n 16) (λ t. inl (omega (arith, leb-true n 16 t, c.min-i-end.ensures))) (λ f. inr (omega (arith, leb-false n 16 f, c.min-i-end.ensures))))

@@ -1,24 +1,13 @@
 -- `host::translate` meets its contract: 1 first, then where the message goes.
-use mathlib.Core.Path.{sym, ap₂, ◌∙◌}
-use borrow.Author.Tests.{not-true, not-false}
+use mathlib.Core.Path.{sym, ap, ◌∙◌}
 use Rattle.model.specs.Config.{sound}
 use Rattle.model.specs.Entry.{translate as translateOf}
-use borrow.Author.Rules.{rules}
 use Rattle.host.proofs.translate.Goals as goal
 
-pub returns-then-not-sound_unit : goal.returns-then-not-sound_unit
+pub returns-then-not-is_sound : goal.returns-then-not-is_sound
 unfolding translateOf
-returns-then-not-sound_unit c =
-    let s = c in
-    let g = s in
-    let same = ap₂ sound g.config_in-config.ensures g.registers_in-registers.ensures in
-    rw (sym (s.sound_unit.ensures ∙ same) ∙ c.if-not-sound_unit.true)
+returns-then-not-is_sound c = rw (sym (c.is_sound.ensures ∙ ap (λ f. sound f.config f.registers) c.frame_in.ensures) ∙ c.if-not-is_sound.true)
 
 pub returns : goal.returns
 unfolding translateOf
-returns c =
-    let i = c in
-    let s = i in
-    let g = s in
-    let same = ap₂ sound g.config_in-config.ensures g.registers_in-registers.ensures in
-    rw (sym (s.sound_unit.ensures ∙ same) ∙ i.if-not-sound_unit.false) c.deliver.ensures
+returns c = rw (sym (c.is_sound.ensures ∙ ap (λ f. sound f.config f.registers) c.frame_in.ensures) ∙ c.if-not-is_sound.false) c.deliver.ensures

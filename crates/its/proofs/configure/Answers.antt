@@ -12,8 +12,8 @@ told k e = record { answer = e; numbers = ap (λ r. verdict_number r.verdict) e 
 
 pub returns-then-sound_config : goal.returns-then-sound_config
 unfolding configure
-returns-then-sound_config c = told c.args.config (rw (sym c.sound_config.ensures ∙ c.if-sound_config.true, c.fresh-unit.ensures))
+returns-then-sound_config c = told c.args.config (rw (sym c.sound_config.ensures ∙ c.if-sound_config.true, c.fresh.ensures))
 
-pub returns : goal.returns
+pub returns-else-sound_config : goal.returns-else-sound_config
 unfolding configure
-returns c = told c.args.config (rw (sym c.sound_config.ensures ∙ c.if-sound_config.false, c.no_unit-unit.ensures))
+returns-else-sound_config c = told c.args.config (rw (sym c.sound_config.ensures ∙ c.if-sound_config.false, c.no_unit.ensures))

@@ -1,14 +1,8 @@
--- `lent_queue::run` meets its contract. The invariant is `Running`: what is left to do gives the same end as the whole.
-use native.Mathlib.Omega.{arith}
-use borrow.Author.Rules.{rules}
-use Rattle.answers.proofs.Counting.{stands, fits, room}
+-- Before each command those so far are those of the model's run: what is known then is said by Running.antt.
+use Prim.Native.Nat.{◌-◌}
 use Rattle.decoding.specs.Reading.{lent}
-use Rattle.lent_tables.specs.Numbers.{registers_in}
-use Rattle.lent_queue.proofs.Running.{Running, run_starts, long, run_on, run_less, run_over}
+use Rattle.lent_queue.proofs.Running.{Running, on_with}
 use Rattle.lent_queue.proofs.run.Given as goal
 
-abbrev pub invariant-loop-n : goal.invariant-loop-n
-invariant-loop-n l = Running (lent l.address l.bytes) l.count l.initial.state l.initial.row l.state l.row l.n
-
-abbrev pub decreases-loop-n : goal.decreases-loop-n
-decreases-loop-n l = l.n.left
+abbrev pub invariant-loop : goal.invariant-loop
+invariant-loop l = Running (lent l.window.address l.window.bytes.now) l.count l.initial.state l.initial.row l.state l.row (on_with (l.count - l.counter) l.made)

@@ -5,11 +5,5 @@ use Rattle.lent_tables.proofs.put_processors.Goals as goal
 
 pub returns : goal.returns
 returns c =
-    let p3 = c in
-    let p2 = p3 in
-    let p1 = p2 in
-    let all = p1 in
-    let e = all in
-    let s = e.args in
-    processors_put s.state.now all.whole-all.ensures s.processors (search rules) _ _ _ _ p1.packed-w4.ensures p2.packed-w5.ensures
-    p3.packed-w6.ensures c.packed-w7.ensures (search rules)
+    let a = c.args in
+    processors_put a.state.now c.told-state a.processors (search rules) _ _ _ _ c.packed.ensures c.packed-2.ensures c.packed-3.ensures c.packed-4.ensures (search rules)

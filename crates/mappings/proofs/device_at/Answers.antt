@@ -1,14 +1,13 @@
 -- The record, where it is the first of its key.
-use Rattle.command.proofs.Sizes.{sized}
-use Rattle.mappings.proofs.Stands.{this_device, no_device_lem}
+use Rattle.std.proofs.Common.{rules}
+use Rattle.model.specs.Keys.{is_device}
+use Rattle.mappings.specs.Mappings.{mapped_at}
+use Rattle.mappings.proofs.Stands.{stood}
 use Rattle.mappings.proofs.device_at.Goals as goal
 
-pub returns-then-is_at : goal.returns-then-is_at
-returns-then-is_at c =
+pub returns : goal.returns
+unfolding mapped_at
+returns c =
     let u = c.args.unit in
-    this_device u (sized u c.well_formed.0) c.args.i c.device_at-entry.ensures c.find_device-first.ensures c.is_at.ensures c.if-is_at.true
-
-pub returns-else-is_at : goal.returns-else-is_at
-returns-else-is_at c =
-    let u = c.args.unit in
-    no_device_lem u (sized u c.well_formed.0) c.args.i c.device_at-entry.ensures c.find_device-first.ensures c.is_at.ensures c.if-is_at.false c.no_device.ensures
+    let here = stood (is_device c.at-entry.result.device) u.devices c.args.i c.find.ensures c.is_at.ensures in
+    rw (← c.at-entry.ensures, ← here) (search rules)

@@ -1,10 +1,10 @@
--- `text::digit_count` meets its contract. The invariant: the digits that are counted and those that are left are the number's.
+-- `text::digit_count` meets its contract: the power of ten at or below a number has a digit fewer than the number.
 use native.Mathlib.Omega.{arith}
-use Rattle.text.proofs.Digits.{count_more, count_less}
+use mathlib.Core.Path.{sym}
+use Rattle.text.proofs.Digits.{count_power}
 use Rattle.text.proofs.digit_count.Goals as goal
 
-pub returns-then-m-lt10 : goal.returns-then-m-lt10
-returns-then-m-lt10 c = (omega (arith, count_less c.loop-left.left c.loop-left.m c.if-m-lt10.true), omega arith)
-
-pub loop-left-preserved : goal.loop-left-preserved
-loop-left-preserved c = (omega (arith, count_more c.loop-left.left c.loop-left.m c.loop-left-test.true c.if-m-lt10.false), omega arith)
+pub returns-in-Some : goal.returns-in-Some
+returns-in-Some c =
+    let h = c.in-Some in
+    (sym (count_power 20 h.power c.args.n (omega (arith, h.ensures.bound)) h.ensures.power_le h.ensures.next_power_gt), omega (arith, h.ensures.bound))

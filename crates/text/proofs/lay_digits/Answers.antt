@@ -7,4 +7,4 @@ use Rattle.text.proofs.lay_digits.Goals as goal
 pub returns : goal.returns
 returns c =
     let a = c.args in
-    (lay_none _ _ _ _ c.loop-i-test.false ∙ c.loop-i.invariant.0) ∙ lay_is a.k a.at a.n a.out.now (omega arith)
+    (lay_none _ _ _ _ c.loop-i-test.false ∙ c.loop-i.invariant) ∙ lay_is a.k a.at a.n a.out.now (omega arith)

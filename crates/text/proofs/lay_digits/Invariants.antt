@@ -1,12 +1,7 @@
 -- `text::lay_digits` meets its contract. The invariant: what is left to lay gives the same list as the whole.
-use Prim.Native.Nat.{◌≤◌}
 use mathlib.Core.Path.{◌≡◌}
-use lib.ListN.{length}
 use Rattle.text.proofs.Digits.{lay}
 use Rattle.text.proofs.lay_digits.Given as goal
 
 abbrev pub invariant-loop-i : goal.invariant-loop-i
-invariant-loop-i l = (lay l.i l.at l.m l.out ≡ lay l.k l.at l.n l.initial.out) × (length l.out ≡ length l.initial.out) × (l.i ≤ l.k)
-
-abbrev pub decreases-loop-i : goal.decreases-loop-i
-decreases-loop-i l = l.i
+invariant-loop-i l = lay l.i l.at l.m l.out ≡ lay l.k l.at l.n l.initial.out

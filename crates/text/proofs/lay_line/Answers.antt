@@ -5,21 +5,21 @@ use Rattle.text.proofs.WholeLine.{line_length, line_laid}
 use Rattle.text.proofs.lay_line.Goals as goal
 
 pub bounds-out-at : goal.bounds-out-at
-bounds-out-at c = omega (arith, line_length c.args.line)
+bounds-out-at g c = omega (arith, line_length c.args.line.now)
 
-pub bounds-out-second : goal.bounds-out-second
-bounds-out-second c = rw length-set (omega (arith, line_length c.args.line))
+pub bounds-out-at-2 : goal.bounds-out-at-2
+bounds-out-at-2 g c = rw length-set (omega (arith, line_length c.args.line.now))
 
 pub lay_numbers-end-requires : goal.lay_numbers-end-requires
-lay_numbers-end-requires c = rw (length-set, length-set) (omega (arith, line_length c.args.line))
+lay_numbers-end-requires g c = rw (length-set, length-set) (omega (arith, line_length c.args.line.now))
 
 pub bounds-out-end : goal.bounds-out-end
-bounds-out-end c =
+bounds-out-end g c =
     let n = c.lay_numbers-end in
-    rw (n.auto.out, length-set, length-set) (omega (arith, n.ensures.0, line_length c.args.line))
+    rw (n.auto.out, length-set, length-set) (omega (arith, n.ensures.0, line_length c.args.line.now))
 
 pub returns : goal.returns
-returns c =
+returns g c =
     let a = c.args in
     let n = c.lay_numbers-end in
-    rw n.ensures.1 (line_laid a.out.now a.at n.result a.line (omega arith) n.ensures.0)
+    rw n.ensures.1 (line_laid a.out.now a.at n.result a.line.now (omega arith) n.ensures.0)

@@ -1,5 +1,4 @@
 -- `words::bits_needed` meets its contract: there are at most 32 leading zeros, and what is left of 32 is the bits needed.
-use lib.Count.{leading_le}
 use Rattle.words.proofs.Bits.{bits_needed_lem}
 use Rattle.words.proofs.bits_needed.Goals as goal
 

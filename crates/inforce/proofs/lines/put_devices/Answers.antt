@@ -15,7 +15,7 @@ pub loop-i-preserved : goal.loop-i-preserved
 loop-i-preserved c =
     let h = c.loop-i in
     let u = c.args.unit in (
-      laid_on (λ r. r.used) (mapped_at u) device_line 32 h.i (omega arith) (output h.out h.next) _ (rw (← c.device_at-r.ensures) c.put_device-next.ensures) ∙ h.invariant.0,
+      laid_on (mapped_at u) device_line 32 h.i (omega arith) (output h.out h.next) _ (rw (← c.device_at.ensures) c.put_device-next.ensures) ∙ h.invariant.0,
       c.put_device-next.auto.out ∙ h.invariant.1,
       h.invariant.2,
       omega arith,
@@ -25,4 +25,4 @@ pub returns : goal.returns
 returns c =
     let h = c.loop-i in
     let a = c.args in
-    rw (none_left (λ r. r.used) (mapped_at a.unit) device_line 32 h.i (omega arith)) at h.invariant.0 ∙ ap (lay_all (output a.out.now a.laid)) (all_devices a.unit h.invariant.2)
+    rw (none_left (mapped_at a.unit) device_line 32 h.i (omega arith)) at h.invariant.0 ∙ ap (lay_all (output a.out.now a.laid)) (all_devices a.unit h.invariant.2)

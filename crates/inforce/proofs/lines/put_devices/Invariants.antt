@@ -13,8 +13,5 @@ use Rattle.inforce.proofs.lines.put_devices.Given as goal
 
 abbrev pub invariant-loop-i : goal.invariant-loop-i
 invariant-loop-i l = (lay_all (output l.out l.next)
-    (left (λ r. r.used) (mapped_at l.unit) device_line 32 l.i) ≡ lay_all (output l.initial.out l.initial.next)
-    (left (λ r. r.used) (mapped_at l.unit) device_line 32 0)) × (length l.out ≡ length l.initial.out) × (length l.unit.devices ≡ 32) × (l.i ≤ 32)
-
-abbrev pub decreases-loop-i : goal.decreases-loop-i
-decreases-loop-i l = 32 - l.i
+    (left (mapped_at l.unit) device_line 32 l.i) ≡ lay_all (output l.initial.out l.initial.next)
+    (left (mapped_at l.unit) device_line 32 0)) × (length l.out ≡ length l.initial.out) × (length l.unit.devices ≡ 32) × (l.i ≤ 32)

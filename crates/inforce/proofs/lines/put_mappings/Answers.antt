@@ -15,7 +15,7 @@ pub loop-i-preserved : goal.loop-i-preserved
 loop-i-preserved c =
     let h = c.loop-i in
     let u = c.args.unit in (
-      laid_on (λ m. m.in_force) (mapping_at u) mapping_line 256 h.i (omega arith) (output h.out h.next) _ (rw (← c.mapping_at-m.ensures) c.put_mapping-next.ensures) ∙ h.invariant.0,
+      laid_on (mapping_at u) mapping_line 256 h.i (omega arith) (output h.out h.next) _ (rw (← c.mapping_at.ensures) c.put_mapping-next.ensures) ∙ h.invariant.0,
       c.put_mapping-next.auto.out ∙ h.invariant.1,
       h.invariant.2,
       omega arith,
@@ -25,4 +25,4 @@ pub returns : goal.returns
 returns c =
     let h = c.loop-i in
     let a = c.args in
-    rw (none_left (λ m. m.in_force) (mapping_at a.unit) mapping_line 256 h.i (omega arith)) at h.invariant.0 ∙ ap (lay_all (output a.out.now a.laid)) (all_mappings a.unit h.invariant.2)
+    rw (none_left (mapping_at a.unit) mapping_line 256 h.i (omega arith)) at h.invariant.0 ∙ ap (lay_all (output a.out.now a.laid)) (all_mappings a.unit h.invariant.2)

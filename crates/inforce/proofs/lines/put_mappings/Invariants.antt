@@ -13,8 +13,5 @@ use Rattle.inforce.proofs.lines.put_mappings.Given as goal
 
 abbrev pub invariant-loop-i : goal.invariant-loop-i
 invariant-loop-i l = (lay_all (output l.out l.next)
-    (left (λ m. m.in_force) (mapping_at l.unit) mapping_line 256 l.i) ≡ lay_all (output l.initial.out l.initial.next)
-    (left (λ m. m.in_force) (mapping_at l.unit) mapping_line 256 0)) × (length l.out ≡ length l.initial.out) × (length l.unit.translations ≡ 256) × (l.i ≤ 256)
-
-abbrev pub decreases-loop-i : goal.decreases-loop-i
-decreases-loop-i l = 256 - l.i
+    (left (mapping_at l.unit) mapping_line 256 l.i) ≡ lay_all (output l.initial.out l.initial.next)
+    (left (mapping_at l.unit) mapping_line 256 0)) × (length l.out ≡ length l.initial.out) × (length l.unit.translations ≡ 256) × (l.i ≤ 256)

@@ -17,7 +17,7 @@ returns c =
     let a = p.args in
     let first = output a.out.now a.laid in
     let u = a.unit in
-    rw (d.put_devices.ensures, m.put_mappings-next.ensures, p.put_profile-first.ensures)
+    rw (d.put_devices.ensures, m.put_mappings-mapped.ensures, p.put_profile-profiled.ensures)
     (sym
     (append first (profile_lines u.config) (map mapping_line (mappings_of u) ++ map device_line (devices_of u))
     ∙ append (lay_all first (profile_lines u.config)) (map mapping_line (mappings_of u)) (map device_line (devices_of u))))

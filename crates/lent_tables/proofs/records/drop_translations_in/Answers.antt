@@ -1,20 +1,19 @@
--- `lent_tables::records::drop_translations_in` meets its contract. The loop's invariant: the records from number `left` on are done, and nothing else has changed.
+-- A turn of the drop frees the record or leaves it.
 use native.Mathlib.Omega.{arith}
 use mathlib.Core.Path.{refl}
-use borrow.Author.Rules.{rules}
-use Rattle.lent_tables.proofs.Drops.{DropsDown, down_starts, down_hit, down_miss, down_ends}
+use Rattle.lent_tables.proofs.Drops.{down_starts, down_hit, down_miss, down_ends}
 use Rattle.lent_tables.proofs.records.drop_translations_in.Goals as goal
 
-pub loop-left-init : goal.loop-left-init
-loop-left-init c = down_starts c.args.collection c.args.state.now
+pub loop-at-init : goal.loop-at-init
+loop-at-init c = down_starts c.args.collection c.args.state.now
 
-pub loop-left-preserved-then-pair_in : goal.loop-left-preserved-then-pair_in
-loop-left-preserved-then-pair_in c =
-    let i = c in
-    let t = i in
-    down_hit t.loop-left.invariant (omega (arith, t.loop-left-test.true)) i.pair_in.ensures i.if-pair_in.true refl c.free_pair.ensures
+pub loop-at-preserved-then-pair_in : goal.loop-at-preserved-then-pair_in
+loop-at-preserved-then-pair_in c =
+    down_hit c.loop-at.invariant (omega (arith, c.loop-at-test.true)) c.pair_in.ensures c.if-pair_in.true refl c.free_pair.ensures
 
-pub loop-left-preserved : goal.loop-left-preserved
-loop-left-preserved c =
-    let t = c in
-    down_miss t.loop-left.invariant (omega (arith, t.loop-left-test.true)) c.pair_in.ensures c.if-pair_in.false refl
+pub loop-at-preserved : goal.loop-at-preserved
+loop-at-preserved c =
+    down_miss c.loop-at.invariant (omega (arith, c.loop-at-test.true)) c.pair_in.ensures c.if-pair_in.false refl
+
+pub returns : goal.returns
+returns c = down_ends c.loop-at.invariant (omega arith)

@@ -1,12 +1,6 @@
--- `lent_tables::records::drop_translations_in` meets its contract. The loop's invariant: the records from number `left` on are done, and nothing else has changed.
-use native.Mathlib.Omega.{arith}
-use mathlib.Core.Path.{refl}
-use borrow.Author.Rules.{rules}
-use Rattle.lent_tables.proofs.Drops.{DropsDown, down_starts, down_hit, down_miss, down_ends}
+-- What a drop from the last record down knows: the records from there on are done, and nothing else has changed.
+use Rattle.lent_tables.proofs.Drops.{DropsDown}
 use Rattle.lent_tables.proofs.records.drop_translations_in.Given as goal
 
-abbrev pub invariant-loop-left : goal.invariant-loop-left
-invariant-loop-left l = DropsDown l.collection l.initial.state l.left l.state
-
-abbrev pub decreases-loop-left : goal.decreases-loop-left
-decreases-loop-left l = l.left
+abbrev pub invariant-loop-at : goal.invariant-loop-at
+invariant-loop-at l = DropsDown l.fn.collection l.initial.state l.at l.state

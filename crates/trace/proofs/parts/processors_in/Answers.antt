@@ -1,25 +1,23 @@
--- `trace::parts::processors_in` meets its contract. The invariant: the first i of the sixteen places are filled.
+-- One processor more, and at the end all of them, or sixteen.
+use Rattle.std.proofs.Common.{rules}
 use native.Mathlib.Omega.{arith}
 use mathlib.Core.Path.{◌≡◌, ◌∙◌}
-use Rattle.trace.proofs.Processors.{filled_more, filled_all, filled_first}
+use mathlib.Core.Logic.{inl, inr}
+use lib.Dec.{leb}
+use borrow.Author.Tests.{leb-true, leb-false}
+use Rattle.model.proofs.Cases.{cases}
+use Rattle.trace.proofs.Processors.{filled_more, filled_taken}
 use Rattle.trace.proofs.parts.processors_in.Goals as goal
 
 pub loop-i-preserved : goal.loop-i-preserved
 loop-i-preserved c =
     let h = c.loop-i in
     let a = c.args in
-    (rw (h.invariant.0, c.number_at-n.ensures.0) (filled_more h.i a.bytes.now (omega arith)), omega arith, omega arith)
+    (rw (h.invariant.0, c.number_at.ensures.0) (filled_more h.i a.bytes.now (omega arith)), omega arith, omega arith)
 
-pub returns-then-i-ge16 : goal.returns-then-i-ge16
-returns-then-i-ge16 c =
+pub returns : goal.returns
+returns c =
     let h = c.loop-i in
     let a = c.args in
-    let all : h.i ≡ 16 = omega arith in
-    rw all at h.invariant.0 ∙ filled_first a.count a.bytes.now (omega arith)
-
-pub returns-then-count-i : goal.returns-then-count-i
-returns-then-count-i c =
-    let h = c.loop-i in
-    let a = c.args in
-    let all : h.i ≡ a.count = omega arith in
-    rw all at h.invariant.0 ∙ filled_all a.count a.bytes.now (omega arith)
+    h.invariant.0 ∙ filled_taken a.count h.i a.bytes.now (omega arith) (omega arith)
+    (cases (leb a.count 16) (λ t. inl (omega (arith, leb-true a.count 16 t, c.min-i-end.ensures))) (λ f. inr (omega (arith, leb-false a.count 16 f, c.min-i-end.ensures))))

@@ -1,11 +1,8 @@
--- `trace::parts::processors_in` meets its contract. The invariant: the first i of the sixteen places are filled.
-use Prim.Native.Nat.{◌-◌, ◌≤◌}
+-- The first i of the sixteen places are filled.
+use Prim.Native.Nat.{◌≤◌}
 use mathlib.Core.Path.{◌≡◌}
 use Rattle.trace.proofs.Processors.{filled}
 use Rattle.trace.proofs.parts.processors_in.Given as goal
 
 abbrev pub invariant-loop-i : goal.invariant-loop-i
 invariant-loop-i l = (l.processors ≡ filled l.i l.bytes) × (l.i ≤ 16) × (l.i ≤ l.count)
-
-abbrev pub decreases-loop-i : goal.decreases-loop-i
-decreases-loop-i l = 16 - l.i

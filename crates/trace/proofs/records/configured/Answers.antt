@@ -20,7 +20,7 @@ returns c =
     let a = c.args in
     let count = c.number_at-count.ensures.0 in
     rw (cf_whole a.bytes.now (omega (arith, count)))
-    (ap (λ t. stand_at (output_of t) t.run.at (stretch_of t.run) c.configure-configured.result.unit) c.moved-r.ensures
+    (ap (λ t. stand_at (output_of t) t.run.at (stretch_of t.run) c.configure-configured.result.unit) c.moved.ensures
     ∙ rw (
       c.of_configuration-line.ensures,
       c.configure-configured.ensures.answer,

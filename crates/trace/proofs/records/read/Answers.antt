@@ -13,7 +13,7 @@ returns c =
     rw (
       rd_whole a.bytes.now c.if-bytes-lt11.false,
       c.moved.ensures,
-      c.of_read-line.ensures,
+      c.of_read.ensures,
       c.read_its-answer.ensures.answer,
       c.number_at-offset.ensures.0,
       c.number_at-width.ensures.0,

@@ -13,7 +13,7 @@ returns c =
     rw (
       tr_whole a.bytes.now c.if-bytes-lt10.false,
       c.moved.ensures,
-      c.of_translation-line.ensures,
+      c.of_translation.ensures,
       c.translate-answer.ensures.answer,
       c.number_at.ensures.0,
       c.number_at-2.ensures.0,

@@ -30,7 +30,7 @@ returns c =
     rw (gm_whole a.bytes.now (omega (arith, size)) (omega (arith, size)), size_left)
     (ap
     (λ t. stand_at (output_of t) t.run.at (record { address = c.number_at-address.result; from = a.run.at + 14; size = n.result }) t.run.unit)
-    c.moved-r.ensures
+    c.moved.ensures
     ∙ rw (
       c.of_window-line.ensures,
       c.number_at-address.ensures.0,

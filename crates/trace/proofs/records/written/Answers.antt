@@ -20,8 +20,8 @@ returns c =
     a.bytes.now
     a.out.now
     a.run
-    c.put_written-next.new.out
-    c.put_written-next.result
+    c.put_written.new.out
+    c.put_written.result
     w.result.unit
     w.result.answer
     w.result.row
@@ -37,4 +37,4 @@ returns c =
     (ap (λ r. r.unit) all)
     (ap (λ r. r.answer) all)
     (ap (λ r. r.row) all)
-    c.put_written-next.ensures
+    c.put_written.ensures

@@ -1,8 +1,0 @@
--- `lent_command::is_too_large` meets its contract: the profile and the number.
-use borrow.Author.Rules.{rules}
-use Rattle.model.specs.Step.{too_large}
-use Rattle.lent_command.proofs.is_too_large.Goals as goal
-
-pub returns : goal.returns
-unfolding too_large
-returns c = rw (← c.profile_in-profile.ensures) (search rules)

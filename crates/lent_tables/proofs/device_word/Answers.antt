@@ -1,8 +1,0 @@
--- `lent_tables::device_word` meets its contract: the fields stand side by side in the word, so that it is the record again.
-use native.Mathlib.Omega.{arith}
-use borrow.Author.Rules.{rules}
-use Rattle.lent_tables.proofs.Fields.{high_le, device_made}
-use Rattle.lent_tables.proofs.device_word.Goals as goal
-
-pub returns : goal.returns
-returns c = rw c.used_word.ensures (device_made c.args.r (omega arith) (omega arith))

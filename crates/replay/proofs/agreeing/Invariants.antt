@@ -1,8 +1,0 @@
--- The loop counts its turns down, and nothing has to hold from turn to turn: each step is guarded by its own tests.
-use Rattle.replay.proofs.agreeing.Given as goal
-
-abbrev pub invariant-loop-left : goal.invariant-loop-left
-invariant-loop-left l = Unit {0}
-
-abbrev pub decreases-loop-left : goal.decreases-loop-left
-decreases-loop-left l = l.left

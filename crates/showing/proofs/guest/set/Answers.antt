@@ -1,8 +1,0 @@
--- `showing::guest::set` meets its contract: the unit of what the entry answers.
-use Rattle.std.proofs.Common.{ap}
-use Rattle.showing.specs.Guest.{set_to}
-use Rattle.showing.proofs.guest.set.Goals as goal
-
-pub returns : goal.returns
-unfolding set_to
-returns c = ap (λ r. r.unit) c.write-w.ensures.answer

@@ -1,8 +1,0 @@
--- `text::lines::of_configuration` meets its contract: the line computes.
-use Rattle.model.specs.Trace.{line}
-use Rattle.text.specs.Laying.{line_of}
-use Rattle.text.proofs.lines.of_configuration.Goals as goal
-
-pub returns : goal.returns
-unfolding line line_of
-returns c = rw c.verdict_number-number.ensures

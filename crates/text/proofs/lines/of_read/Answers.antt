@@ -1,8 +1,0 @@
--- `text::lines::of_read` meets its contract: the line computes.
-use Rattle.model.specs.Trace.{line}
-use Rattle.text.specs.Laying.{line_of}
-use Rattle.text.proofs.lines.of_read.Goals as goal
-
-pub returns : goal.returns
-unfolding line line_of
-returns c = rw c.read_numbers-numbers.ensures

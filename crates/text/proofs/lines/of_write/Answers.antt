@@ -1,8 +1,0 @@
--- `text::lines::of_write` meets its contract: the line computes.
-use Rattle.model.specs.Trace.{line}
-use Rattle.text.specs.Laying.{line_of}
-use Rattle.text.proofs.lines.of_write.Goals as goal
-
-pub returns : goal.returns
-unfolding line line_of
-returns c = rw c.write_numbers-numbers.ensures
