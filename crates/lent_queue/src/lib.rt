@@ -61,11 +61,12 @@ fn carry_out(
     ensures { Turns (judged (check (unit_in state.old) x) x opcode) state.old row.old at result state.new row.new }
 {
     let action = lent_command::execute(state, x).map_err(|refusal| Halt { refusal, opcode })?;
-    lent_tables::pass_command(state);
     let Some(a) = action else {
+        lent_tables::pass_command(state);
         return Ok(false);
     };
     row[at] = action_word(a);
+    lent_tables::pass_command(state);
     Ok(true)
 }
 

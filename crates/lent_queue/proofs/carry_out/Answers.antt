@@ -23,7 +23,10 @@ returns-in_default c =
     let came : c.execute.result ≡ Ok None = grind (arith, common_steps) steps 800000 in
     carried_done c.execute.new.state c.args.x c.args.opcode c.execute.ensures c.pass_command.ensures came
 
+pub pass_command-requires-2 : goal.pass_command-requires-2
+pass_command-requires-2 c = reader_small c.execute.new.state (stands_stepped (unit_in c.args.state.now) c.args.x c.requires.0 c.execute.ensures.1)
+
 pub returns : goal.returns
 returns c =
     let came : c.execute.result ≡ Ok (Some c.in-Some.a) = grind (arith, common_steps) steps 800000 in
-    carried_acted c.execute.new.state c.args.x c.args.opcode c.execute.ensures c.pass_command.ensures came c.action_word.ensures
+    carried_acted c.execute.new.state c.args.x c.args.opcode c.execute.ensures c.pass_command-2.ensures came c.action_word.ensures
