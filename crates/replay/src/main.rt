@@ -5,6 +5,8 @@
 // Every function here is proved safe and ending, and no more.
 #![tactic(auto)]
 
+ghost use Rattle.std.specs.Prelude.{◌≤◌, length};
+
 use std::env::{Env, FillError};
 use std::fs::File;
 use std::io;
@@ -18,7 +20,9 @@ struct Tally {
 }
 
 // An argument, put at the start of the room: nothing where it is missing, or longer than the room.
-fn named<'a>(rt: &impl Env, argument: usize, room: &'a mut [u8]) -> &'a [u8] {
+fn named<'a>(rt: &impl Env, argument: usize, room: &'a mut [u8]) -> &'a [u8]
+    ensures { length result.now ≤ length room.old }
+{
     let n = rt.arg(argument, room).unwrap_or(0);
     &room[..n]
 }
@@ -41,7 +45,9 @@ fn open_named<R: Files>(rt: &R, name: &[u8]) -> Option<R::File> {
 }
 
 // Reads the file that an argument names, as far as there is room. A file that does not open has no bytes, and one that fails ends there.
-fn read_named<'a>(rt: &(impl Env + Files), argument: usize, room: &'a mut [u8]) -> &'a [u8] {
+fn read_named<'a>(rt: &(impl Env + Files), argument: usize, room: &'a mut [u8]) -> &'a [u8]
+    ensures { length result.now ≤ length room.old }
+{
     let mut name = [0u8; 4096];
     match open_named(rt, named(rt, argument, &mut name)) {
         Some(mut file) => input::read_full(&mut file, room).0,
