@@ -7,6 +7,7 @@ ghost use Rattle.showing.specs.Guest.{ring_in, set_to, enabled_with, example_wit
 use crate::show::Sheet;
 use its::WrittenRow;
 use model::{EventId, GicVcpuId, ItsConfig, ItsDeviceId, ItsState};
+use std::convert::AsSlice;
 use text::Line;
 
 // Where the ring begins: it is one page.
@@ -112,20 +113,27 @@ pub fn example(page: &[u8; 4096]) -> ItsState
 }
 
 impl Sheet {
-    pub fn reads(&mut self, what: &str, unit: ItsState, offset: u64, width: u8, expected: Line<2>) {
+    pub fn reads<const N: usize>(
+        &mut self,
+        what: impl AsSlice<u8> + Drop,
+        unit: ItsState,
+        offset: u64,
+        width: u8,
+        expected: Line<N>,
+    ) {
         let answer = its::read_its(unit, offset, width);
         self.show(what, text::lines::of_read(answer), expected);
     }
 
     #[tactic(auto, unfolding(crate::specs::Guest::set_to))]
-    pub fn writes(
+    pub fn writes<const N: usize>(
         &mut self,
-        what: &str,
+        what: impl AsSlice<u8> + Drop,
         unit: ItsState,
         page: &[u8; 4096],
         offset: u64,
         value: u64,
-        expected: Line<5>,
+        expected: Line<N>,
     ) -> ItsState
         ensures { result ≡ set_to page.now unit offset 8 value }
     {
@@ -134,13 +142,13 @@ impl Sheet {
         w.unit
     }
 
-    pub fn translates(
+    pub fn translates<const N: usize>(
         &mut self,
-        what: &str,
+        what: impl AsSlice<u8> + Drop,
         unit: ItsState,
         device: u32,
         event: u32,
-        expected: Line<3>,
+        expected: Line<N>,
     ) {
         let answer = its::translate(unit, ItsDeviceId(device), EventId(event));
         self.show(what, text::lines::of_translation(answer), expected);

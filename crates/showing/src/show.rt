@@ -5,7 +5,7 @@ ghost use Rattle.std.specs.Prelude.{◌≡◌, ◌∷◌, []};
 ghost use Rattle.model.specs.Trace.{line as lineWith};
 ghost use Rattle.text.specs.Laying.{line_of};
 
-use std::fmt::Display;
+use std::convert::AsSlice;
 use std::io;
 use std::io::Stdout;
 use text::Line;
@@ -30,43 +30,47 @@ impl Sheet {
         self.written
     }
 
-    fn put(&mut self, what: impl Display + Drop) {
+    fn put(&mut self, bytes: &[u8]) {
         if self.written.is_ok() {
-            self.written = self.to.print(what);
+            self.written = self.to.write_all(bytes);
+        }
+    }
+
+    fn put_number(&mut self, n: u64) {
+        if self.written.is_ok() {
+            self.written = self.to.print(n);
         }
     }
 
     fn put_line<const N: usize>(&mut self, line: Line<N>) {
-        for byte in line.mark {
-            self.put(char::from(byte));
-        }
+        self.put(&line.mark);
         for n in line.numbers {
-            self.put(' ');
-            self.put(n);
+            self.put(b" ");
+            self.put_number(n);
         }
     }
 
     // A line above those of one unit.
-    pub fn heading(&mut self, what: &str) {
-        self.put(what);
-        self.put(":\n");
+    pub fn heading(&mut self, what: impl AsSlice<u8> + Drop) {
+        self.put(what.as_slice());
+        self.put(b":\n");
     }
 
     pub fn show<const M: usize, const N: usize>(
         &mut self,
-        what: &str,
+        what: impl AsSlice<u8> + Drop,
         came: Line<M>,
         expected: Line<N>,
     ) {
-        self.put(what);
-        self.put(": ");
+        self.put(what.as_slice());
+        self.put(b": ");
         self.put_line(came);
-        self.put(", expected ");
+        self.put(b", expected ");
         self.put_line(expected);
         if came.mark != expected.mark || came.numbers.as_slice() != expected.numbers.as_slice() {
-            self.put(", WRONG");
+            self.put(b", WRONG");
         }
-        self.put('\n');
+        self.put(b"\n");
     }
 }
 
