@@ -4,7 +4,7 @@
 mod lines;
 mod runs;
 
-ghost use Rattle.std.specs.Prelude.{◌≡◌, false, length, get_or, eqb};
+ghost use Rattle.std.specs.Prelude.{◌≡◌, false, ◌≤◌, length, get_or, eqb};
 ghost use Rattle.text.specs.Laying.{output, lay_all};
 ghost use Rattle.inforce.specs.Shown.{shown_lines, shown};
 
@@ -37,7 +37,8 @@ fn lay(input: &[u8], out: &mut [u8]) -> Laid
 // What is printed of an input, at the start of the output.
 fn print<'a>(input: &[u8], out: &'a mut [u8]) -> &'a [u8]
     requires { length out.old ≡ 65536 }
-    ensures { result.now ≡ shown input.now }
+    ensures bytes { result.now ≡ shown input.now }
+    ensures fits { length result.now ≤ length out.old }
 {
     if 32768 < input.len() {
         return b"LONG\n";

@@ -4,8 +4,8 @@ use lib.Seq.{length-take-le}
 use Rattle.inforce.proofs.Printing.{long, within, lines}
 use Rattle.inforce.proofs.print.Goals as goal
 
-pub returns-then-input-gt32768 : goal.returns-then-input-gt32768
-returns-then-input-gt32768 c = long c.args.input.now c.if-input-gt32768.true
+pub returns-then-input-gt32768-clause-bytes : goal.returns-then-input-gt32768-clause-bytes
+returns-then-input-gt32768-clause-bytes c = long c.args.input.now c.if-input-gt32768.true
 
 pub slice_bounds-result-end-2 : goal.slice_bounds-result-end-2
 slice_bounds-result-end-2 c =
@@ -15,8 +15,8 @@ slice_bounds-result-end-2 c =
     rw (r.auto.out, s.requires) (within s.args.input.now s.args.out.now s.requires r.new.out r.result r.ensures) in
     sym (length-take-le r.result.at r.new.out inside)
 
-pub returns : goal.returns
-returns c =
+pub returns-clause-bytes : goal.returns-clause-bytes
+returns-clause-bytes c =
     let s = c in
     let r = c.lay-laid in
     lines s.args.input.now s.args.out.now s.requires r.new.out r.result r.ensures c.if-input-gt32768.false
