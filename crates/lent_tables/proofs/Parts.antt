@@ -1,13 +1,13 @@
 -- The configuration and the registers, stored number by number.
 -- Assumes nothing.
-use Prim.Native.Nat.{ℕ, ◌+◌, ◌%◌, ◌^◌, ◌<◌}
+use Prim.Native.Nat.{ℕ, zero, suc, ◌+◌, ◌%◌, ◌^◌, ◌<◌}
 use native.Mathlib.Omega.{arith}
 use mathlib.Core.Path.{◌≡◌, refl, sym, ap, ◌∙◌}
 use mathlib.Core.Bool.{Bool, true, false}
 use mathlib.Core.List.{List, [], ◌∷◌, ◌++◌}
 use lib.Dec.{eqb}
 use lib.ListN.{length, get_or, set}
-use lib.Seq.{get_or-set_same, get_or-set_other, sets, length-sets}
+use lib.Seq.{get_or-set_same, get_or-set_other, sets}
 use Rattle.model.specs.declared.GicVcpuId.{GicVcpuId}
 use Rattle.model.specs.declared.ItsConfig.{ItsConfig}
 use Rattle.model.specs.declared.ItsRegisters.{ItsRegisters}
@@ -16,46 +16,46 @@ use Rattle.model.specs.Profile.{is_strict}
 use Rattle.model.specs.Register.{one_if}
 use Rattle.model.specs.Config.{no_config}
 use Rattle.model.specs.Queue.{past_command, stall}
-use Rattle.lent_tables.specs.Numbers.{NUMBERS, LAYOUT, LAYOUT_NUMBER, LPI_LIMIT, COMMAND_BUDGET, FRAME_SIZE, PROFILE, PROCESSOR_COUNT, PROCESSORS, REGISTERS, STALLED, ENABLED, CBASER, CREADR, CWRITER, BASERS, DEVICES, processor_at, word, rows, laid_out, setting_at, config_at, config_in, registers_in, unit_in}
+use Rattle.lent_tables.specs.Numbers.{NUMBERS, LAYOUT, LAYOUT_NUMBER, LPI_LIMIT, COMMAND_BUDGET, FRAME_SIZE, PROFILE, PROCESSOR_COUNT, PROCESSORS, REGISTERS, STALLED, ENABLED, CBASER, CREADR, CWRITER, BASERS, processor_at, word, rows, laid_out, setting_at, config_at, config_in, registers_in, unit_in}
 use Rattle.model.proofs.Cases.{cases}
-use Rattle.std.proofs.lemmas.Slice.{between-put_mid}
-use borrow.Rule.Slice.PartMut.{put_mid}
-use Rattle.lent_tables.proofs.Slices.{word_at, outside_part}
 use Rattle.lent_tables.proofs.Rows.{rows_same, rows_list, sets_at}
-use Rattle.lent_tables.proofs.Outside.{Outside, outside_set, outside_sets, outside_twice, config_changed, registers_changed}
+use Rattle.lent_tables.proofs.Outside.{Outside, outside_set, outside_sets, config_changed, registers_changed}
 
--- The registers: five numbers, and the eight BASER behind them.
+-- The registers' thirteen numbers.
 abbrev pub numbers_of : ItsRegisters → List ℕ
-numbers_of r = one_if r.stalled ∷ one_if r.enabled ∷ r.cbaser ∷ r.creadr ∷ r.cwriter ∷ []
+numbers_of r =
+    one_if r.stalled ∷ one_if r.enabled ∷ r.cbaser ∷ r.creadr ∷ r.cwriter ∷
+    get_or r.basers 0 0 ∷ get_or r.basers 1 0 ∷ get_or r.basers 2 0 ∷ get_or r.basers 3 0 ∷
+    get_or r.basers 4 0 ∷ get_or r.basers 5 0 ∷ get_or r.basers 6 0 ∷ get_or r.basers 7 0 ∷ []
 
 one_or_none : (b : Bool) → eqb (one_if b % 2) 1 ≡ b
 one_or_none true = refl
 one_or_none false = refl
 
-module _ (s : List ℕ) (long : length s ≡ NUMBERS) (r : ItsRegisters) (all : length r.basers ≡ 8) {ys : List ℕ} (e : ys ≡ r.basers) where
-  five : List ℕ
-  five = sets s REGISTERS (numbers_of r)
+-- the eight BASER stand behind the first five
+eight : (r : ItsRegisters) (i : ℕ) → i < 8 → get_or (numbers_of r) (5 + i) 0 ≡ get_or r.basers i 0
+eight r zero h = refl
+eight r (suc zero) h = refl
+eight r (suc (suc zero)) h = refl
+eight r (suc (suc (suc zero))) h = refl
+eight r (suc (suc (suc (suc zero)))) h = refl
+eight r (suc (suc (suc (suc (suc zero))))) h = refl
+eight r (suc (suc (suc (suc (suc (suc zero)))))) h = refl
+eight r (suc (suc (suc (suc (suc (suc (suc zero))))))) h = refl
+eight r (suc (suc (suc (suc (suc (suc (suc (suc i)))))))) h = absurd (omega arith)
 
+module _ (s : List ℕ) (long : length s ≡ NUMBERS) (r : ItsRegisters) (all : length r.basers ≡ 8) where
   t : List ℕ
-  t = put_mid BASERS 8 five ys
+  t = sets s REGISTERS (numbers_of r)
 
-  five_long : length five ≡ NUMBERS
-  unfolding five
-  five_long = length-sets s REGISTERS (numbers_of r) ∙ long
-
-  behind : Outside BASERS DEVICES five t
+  at : (j : ℕ) → j < 13 → word t (REGISTERS + j) ≡ get_or (numbers_of r) j 0
   unfolding t
-  behind = outside_part BASERS 8 five ys (omega (arith, five_long)) (ap length e ∙ all)
-
-  at : (j : ℕ) → j < 5 → word t (REGISTERS + j) ≡ get_or (numbers_of r) j 0
-  unfolding five
-  at j h = behind.before (REGISTERS + j) (omega arith) ∙ sets_at s REGISTERS (numbers_of r) j (omega arith) (omega arith)
+  at j h = sets_at s REGISTERS (numbers_of r) j (omega arith) (omega arith)
 
   baser : (i : ℕ) → i < 8 → word t (BASERS + i) ≡ get_or r.basers i 0
-  unfolding t
   baser i h =
-      sym (word_at t BASERS 8 i h) ∙
-      ap (λ l. get_or l i 0) (between-put_mid BASERS 8 five ys DEVICES (omega (arith, five_long)) (ap length e ∙ all) ∙ e)
+      let e : BASERS + i ≡ REGISTERS + (5 + i) = omega arith in
+      ap (word t) e ∙ at (5 + i) (omega arith) ∙ eight r i h
 
   stored : registers_in t ≡ r
   unfolding registers_in
@@ -71,15 +71,9 @@ module _ (s : List ℕ) (long : length s ≡ NUMBERS) (r : ItsRegisters) (all : 
         rows_list 8 (λ i. word t (BASERS + i)) r.basers 0 all baser,
       )
 
-  changed : Outside REGISTERS DEVICES s t
-  unfolding five
-  changed =
-      outside_twice (outside_sets s REGISTERS (numbers_of r) (omega arith) (omega arith))
-      (record { before = λ j h. behind.before j (omega arith); behind = λ j h. behind.behind j h })
-
-  pub registers_put : unit_in (put_mid BASERS 8 (sets s REGISTERS (numbers_of r)) ys) ≡ with_registers (unit_in s) r
-  unfolding t five
-  registers_put = registers_changed changed stored
+  pub registers_put : unit_in (sets s REGISTERS (numbers_of r)) ≡ with_registers (unit_in s) r
+  unfolding t
+  registers_put = registers_changed (outside_sets s REGISTERS (numbers_of r) (omega arith) (omega arith)) stored
 
 -- CREADR alone.
 module _ (s : List ℕ) (long : length s ≡ NUMBERS) (w : ℕ) (e : w ≡ (past_command (registers_in s)).creadr) where

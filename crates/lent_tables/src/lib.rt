@@ -327,6 +327,7 @@ fn bit_word(set: bool) -> u64
     u64::from(set)
 }
 
+// Stays: the eight BASER one by one. Copied as a slice they stand in memory in each part of a write, and its_write needs 300 bytes of stack more.
 pub fn put_registers(state: &mut Numbers, registers: ItsRegisters)
     ensures { unit_in state.new ≡ with_registers (unit_in state.old) registers }
 {
@@ -335,7 +336,14 @@ pub fn put_registers(state: &mut Numbers, registers: ItsRegisters)
     state[CBASER] = registers.cbaser;
     state[CREADR] = registers.creadr;
     state[CWRITER] = registers.cwriter;
-    state[BASERS..DEVICES].copy_from_slice(&registers.basers);
+    state[BASERS] = registers.basers[0];
+    state[BASERS + 1] = registers.basers[1];
+    state[BASERS + 2] = registers.basers[2];
+    state[BASERS + 3] = registers.basers[3];
+    state[BASERS + 4] = registers.basers[4];
+    state[BASERS + 5] = registers.basers[5];
+    state[BASERS + 6] = registers.basers[6];
+    state[BASERS + 7] = registers.basers[7];
 }
 
 // CREADR passes a command.

@@ -31,7 +31,8 @@ fn ctlr(enabled: bool) -> u64
 fn baser(registers: ItsRegisters, index: usize) -> u64
     ensures { result ≡ get_or registers.basers index 0 }
 {
-    registers.basers.get(index).copied().unwrap_or(0)
+    let basers = registers.basers;
+    basers.get(index).copied().unwrap_or(0)
 }
 
 // The ways in which a write goes: stored with nothing to run; stored with a new base; stored with the queue to run; refused.
@@ -136,11 +137,14 @@ fn writer_accepted(registers: ItsRegisters, writer: u64) -> bool
 fn with_baser(registers: ItsRegisters, index: usize, value: u64) -> ItsRegisters
     ensures { result ≡ with_baser registers index value }
 {
-    let mut left = registers;
+    let mut basers = registers.basers;
     if index < 8 {
-        left.basers[index] = words::set_baser(left.basers[index], value);
+        basers[index] = words::set_baser(basers[index], value);
     }
-    left
+    ItsRegisters {
+        basers,
+        ..registers
+    }
 }
 
 #[tactic(auto, unfolding(model::specs::Writing::to_baser))]
