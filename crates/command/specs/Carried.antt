@@ -1,20 +1,13 @@
 -- One command as a function over units by value: it gives the unit after it, or the check that refuses it. A refused command gives no unit, and so
 -- can change none.
 -- Assumes nothing.
-use Rattle.std.specs.Prelude.{Result, Ok, Err, Option}
+use Rattle.std.specs.Prelude.{Result}
 use Rattle.std.specs.Result.{result_map_both}
 use Rattle.model.specs.declared.Refusal.{Refusal}
 use Rattle.model.specs.declared.Command.{Command}
 use Rattle.model.specs.declared.ItsState.{ItsState}
-use Rattle.model.specs.declared.ItsAction.{ItsAction}
-use Rattle.model.specs.declared.Applied.{Applied}
 use Rattle.model.specs.Step.{check, effect}
 
 -- the unit with the effect of a command that is accepted, or the check that refuses it
 unfoldable pub next : ItsState → Command → Result ItsState Refusal
 next u x = result_map_both (λ _. effect u x) (λ why. why) (check u x)
-
--- the next unit and what is handed to the host, or a refusal, as a command carried out: refused, it leaves the unit
-abbrev pub applied : ItsState → Result (ItsState × Option ItsAction) Refusal → Applied
-applied u (Ok v) = record { unit = v.0; executed = Ok v.1 }
-applied u (Err r) = record { unit = u; executed = Err r }

@@ -9,7 +9,6 @@ pub mod pairs;
 ghost use Rattle.std.specs.Prelude.{◌≡◌, if◌then◌else◌, Ok, Err};
 ghost use Rattle.model.specs.declared.Refusal.TheVariants.{DeviceTooLarge};
 ghost use Rattle.model.specs.Step.{too_large, execution};
-ghost use Rattle.command.specs.Carried.{applied};
 
 use model::{Applied, Command, ItsAction, ItsConfig, ItsDeviceId, ItsState, Pair, Refusal};
 
@@ -24,74 +23,73 @@ fn check_size(config: ItsConfig, device: ItsDeviceId) -> Result<(), Refusal>
     Ok(())
 }
 
-// The next unit and what is handed to the host, or the refusal.
-#[tactic(auto, unfolding(model::specs::Step::executed, model::specs::Step::stepped, crate::specs::Carried::next))]
-fn carried(unit: ItsState, x: Command) -> Result<(ItsState, Option<ItsAction>), Refusal>
-    ensures { applied unit result ≡ execution unit x }
+// A command that only looks leaves the unit.
+fn seen(unit: ItsState, executed: Result<Option<ItsAction>, Refusal>) -> Applied
+    ensures { result ≡ record { unit = unit; executed = executed } }
 {
-    Ok(match x {
+    Applied { unit, executed }
+}
+
+// A command that changes the unit gives the next one. The arms come to one value, which is as large as a unit: the compiler clears such a value before
+// each command.
+#[tactic(auto, unfolding(model::specs::Step::executed, model::specs::Step::stepped, crate::specs::Carried::next))]
+pub fn execute(unit: ItsState, x: Command) -> Applied
+    ensures { result ≡ execution unit x }
+{
+    let next = match x {
         Command::Mapd {
             device,
             event_bits,
             valid,
-        } => (maps::map_device(unit, device, event_bits, valid)?, None),
+        } => maps::map_device(unit, device, event_bits, valid),
         Command::Mapc {
             collection,
             target,
             valid,
-        } => (maps::map_collection(unit, collection, target, valid)?, None),
+        } => maps::map_collection(unit, collection, target, valid),
         Command::Mapti {
             device,
             event,
             lpi,
             collection,
-        } => (
-            maps::map_lpi(unit, Pair { device, event }, lpi, collection)?,
-            None,
-        ),
+        } => maps::map_lpi(unit, Pair { device, event }, lpi, collection),
         Command::Mapi {
             device,
             event,
             collection,
-        } => (
-            maps::map_event(unit, Pair { device, event }, collection)?,
-            None,
-        ),
+        } => maps::map_event(unit, Pair { device, event }, collection),
         Command::Movi {
             device,
             event,
             collection,
-        } => (
-            pairs::move_translation(unit, Pair { device, event }, collection)?,
-            None,
-        ),
-        Command::Int { device, event } => (
-            unit,
-            Some(pairs::set_pending(unit, Pair { device, event }, true)?),
-        ),
-        Command::Clear { device, event } => (
-            unit,
-            Some(pairs::set_pending(unit, Pair { device, event }, false)?),
-        ),
-        Command::Discard { device, event } => (pairs::discard(unit, Pair { device, event })?, None),
+        } => pairs::move_translation(unit, Pair { device, event }, collection),
+        Command::Discard { device, event } => pairs::discard(unit, Pair { device, event }),
+        Command::Int { device, event } => {
+            let action = pairs::set_pending(unit, Pair { device, event }, true);
+            return seen(unit, action.map(Some));
+        }
+        Command::Clear { device, event } => {
+            let action = pairs::set_pending(unit, Pair { device, event }, false);
+            return seen(unit, action.map(Some));
+        }
         Command::Inv { device, event } => {
-            pairs::invalidate(unit, Pair { device, event })?;
-            (unit, None)
+            let known = pairs::invalidate(unit, Pair { device, event });
+            return seen(unit, known.map(|()| None));
         }
         Command::Invall { collection } => {
-            pairs::invalidate_all(unit, collection)?;
-            (unit, None)
+            let known = pairs::invalidate_all(unit, collection);
+            return seen(unit, known.map(|()| None));
         }
-        Command::Sync => (unit, None),
-    })
-}
-
-pub fn execute(unit: ItsState, x: Command) -> Applied
-    ensures { result ≡ execution unit x }
-{
-    let (unit, executed) = match carried(unit, x) {
-        Ok((next, action)) => (next, Ok(action)),
-        Err(why) => (unit, Err(why)),
+        Command::Sync => return seen(unit, Ok(None)),
     };
-    Applied { unit, executed }
+    match next {
+        Ok(next) => Applied {
+            unit: next,
+            executed: Ok(None),
+        },
+        Err(why) => Applied {
+            unit,
+            executed: Err(why),
+        },
+    }
 }

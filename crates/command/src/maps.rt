@@ -22,6 +22,7 @@ fn cleared(unit: ItsState, device: ItsDeviceId) -> ItsState
     next
 }
 
+#[inline(never)]
 pub fn map_device(
     unit: ItsState,
     device: ItsDeviceId,
@@ -48,6 +49,7 @@ pub fn map_device(
     Ok(next)
 }
 
+#[inline(never)]
 pub fn map_collection(
     unit: ItsState,
     collection: CollectionId,
@@ -85,6 +87,7 @@ fn lpi_in_range(config: ItsConfig, lpi: LpiId) -> bool
 
 // What MAPTI and MAPI share.
 // Stays: each has a function of its own below, no plainer as one, since a MAPI has no LPI of its own.
+#[inline(never)]
 fn map_translation(
     unit: ItsState,
     pair: Pair,

@@ -11,6 +11,7 @@ ghost use Rattle.command.specs.Carried.{next};
 
 use model::{CollectionId, Delivery, ItsAction, ItsState, Pair, Refusal};
 
+#[inline(never)]
 pub fn move_translation(
     unit: ItsState,
     pair: Pair,
@@ -51,6 +52,7 @@ pub fn set_pending(unit: ItsState, pair: Pair, pending: bool) -> Result<ItsActio
     })
 }
 
+#[inline(never)]
 pub fn discard(unit: ItsState, pair: Pair) -> Result<ItsState, Refusal>
     ensures { result ≡ next unit (Discard pair.device pair.event) }
 {

@@ -142,15 +142,14 @@ impl Progress {
         ensures { result ≡ turned_on self (judged (check self.unit x) x opcode) }
     {
         let applied = command::execute(self.unit, x);
-        match applied.executed {
-            Err(refusal) => self.halt(Halt { refusal, opcode }),
-            Ok(action) => {
-                let next = self.counts.counted(Ok(action.is_some()));
-                let mut unit = applied.unit;
-                unit.registers = pass_command(unit.registers);
-                stand(unit, next, action, self.counts.made.actions)
-            }
-        }
+        let action = match applied.executed {
+            Ok(action) => action,
+            Err(refusal) => return self.halt(Halt { refusal, opcode }),
+        };
+        let next = self.counts.counted(Ok(action.is_some()));
+        let mut unit = applied.unit;
+        unit.registers = pass_command(unit.registers);
+        stand(unit, next, action, self.counts.made.actions)
     }
 
     // One command.
@@ -163,13 +162,13 @@ impl Progress {
             return self.halt(Halt::unread(Refusal::NotInWindow));
         };
         let opcode = words::opcode(words);
-        match decoding::decode(words) {
-            Ok(x) => self.carry_out(x, opcode),
-            Err(_) => self.halt(Halt {
+        let Ok(x) = decoding::decode(words) else {
+            return self.halt(Halt {
                 refusal: Refusal::OpcodeUnknown,
                 opcode,
-            }),
-        }
+            });
+        };
+        self.carry_out(x, opcode)
     }
 
     // The end: in strict a refused command stalls the unit.
