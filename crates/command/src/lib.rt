@@ -30,8 +30,8 @@ fn seen(unit: ItsState, executed: Result<Option<ItsAction>, Refusal>) -> Applied
     Applied { unit, executed }
 }
 
-// A command that changes the unit gives the next one. The arms come to one value, which is as large as a unit: the compiler clears such a value before
-// each command.
+// A command that changes the unit gives the next one. These arms come to one value, `next`: it is as large as a unit, and the compiler clears each such
+// value before every command.
 #[tactic(auto, unfolding(model::specs::Step::executed, model::specs::Step::stepped, crate::specs::Carried::next))]
 pub fn execute(unit: ItsState, x: Command) -> Applied
     ensures { result ≡ execution unit x }

@@ -1,4 +1,5 @@
-// The commands that map: MAPD, MAPC, MAPTI and MAPI.
+// The commands that map: MAPD, MAPC, MAPTI and MAPI. Those that make a unit are functions of their own in the compiled code, here and in pairs.rt: merged
+// into `execute`, the values of all of them were cleared before each command.
 #![tactic(auto, using(model::proofs::Effects::cleared_devices), unfolding(model::specs::Step::cleared, crate::specs::Carried::next, model::specs::Step::drop_device, model::specs::Step::store_device, model::specs::Table::room, model::specs::Table::store, model::specs::Step::drop_collection, model::specs::Step::store_collection, model::specs::Step::lpi_in_range, model::specs::Step::check_mapping, model::specs::Step::store_translation))]
 
 ghost use Rattle.std.specs.Prelude.{◌≡◌};
