@@ -12,7 +12,7 @@ enum { PAGE = 4096, QUEUE = 0x40000, BUDGET = 64, PROCESSOR = 3 };
 #define VALID ((uint64_t)1 << 63)
 enum { PAINTED = 2 * 1024 }; /* of the stack, for a call of a host */
 #ifdef ITS_TRACE
-enum { SIZE = 320 * 1024 };
+enum { SIZE = 192 * 1024 };
 #else
 enum { SIZE = PAINTED };
 #endif
